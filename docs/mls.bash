@@ -9,7 +9,7 @@ _mls() {
             options="--suite --group --signatures --group-info --raw --draw --width --svg --help"
             ;;
         replay)
-            options="--suite --message --tree --quiet --record --draw --width --svg --help"
+            options="--suite --message --tree --quiet --record --draw --width --svg --progress --help"
             ;;
         vectors)
             options="--help"

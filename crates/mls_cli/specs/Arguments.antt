@@ -19,11 +19,13 @@ use Rattle.mls_cli_explain.specs.Explanations.{explanation_view}
 use Rattle.mls_cli.specs.ExplainArguments.{explain_rule, lacking, told_on, unless_asked}
 use Rattle.mls_cli.specs.Options.{flag_rule, number_in, number_rule}
 use Rattle.mls_cli.specs.Drawings.{drawing_by, is_plain, with_drawing_rules}
-use Rattle.mls_cli.specs.ReplayArguments.{view_by, with_picture_rules, with_view_rules}
+use Rattle.mls_cli.specs.ReplayArguments.{progress_by, view_by, with_picture_rules, with_progress_rule, with_view_rules}
 use Rattle.mls_cli.specs.declared.tasks.NoJob.{NoJob}
 use Rattle.mls_cli.specs.declared.tasks.NoJob.TheVariants as no_job
 use Rattle.mls_cli.specs.declared.tasks.Job.{Job}
 use Rattle.mls_cli.specs.declared.tasks.Job.TheVariants.{Show, Check, CheckGroupInfo, Draw, Replay, DrawMember, Vectors}
+use Rattle.mls_cli.specs.declared.tasks.ProgressChoice.{ProgressChoice}
+use Rattle.mls_cli.specs.declared.tasks.ProgressChoice.TheVariants.{OnTerminal}
 use Rattle.mls_cli.specs.declared.tasks.SuiteChoice.{SuiteChoice}
 use Rattle.mls_cli.specs.declared.tasks.SuiteChoice.TheVariants.{Glass, Suite0001}
 
@@ -62,7 +64,9 @@ check_app =
 
 -- `replay`, which takes a FILE, a suite and what is asked for
 abbrev pub replay_app : App
-replay_app = with_picture_rules (with_view_rules (with_rule (file_app (codes "replay")) suite_rule))
+replay_app =
+    with_progress_rule
+    (with_picture_rules (with_view_rules (with_rule (file_app (codes "replay")) suite_rule)))
 
 -- with `--version`
 abbrev pub with_version : App → App
@@ -90,8 +94,8 @@ pub data Task : Type 0 where
   check : Text → Form → SuiteChoice → Bool → Text → Task
   check_group_info : Text → Form → Bool → Task
   draw : Text → Form → TreeSource → Drawing → Task
-  replay : Text → SuiteChoice → ReplayView → Task
-  draw_member : Text → SuiteChoice → ℕ → Drawing → Task
+  replay : Text → SuiteChoice → ReplayView → ProgressChoice → Task
+  draw_member : Text → SuiteChoice → ℕ → Drawing → ProgressChoice → Task
   vectors : Text → Task
 
 abbrev pub task_view : Job → Task
@@ -99,8 +103,9 @@ task_view (Show file form detail) = show file.now form detail
 task_view (Check file form suite signatures group) = check file.now form suite signatures group.now
 task_view (CheckGroupInfo file form signatures) = check_group_info file.now form signatures
 task_view (Draw file form source drawing) = draw file.now form source drawing
-task_view (Replay file suite view) = replay file.now suite view
-task_view (DrawMember file suite member drawing) = draw_member file.now suite member drawing
+task_view (Replay file suite view progress) = replay file.now suite view progress
+task_view (DrawMember file suite member drawing progress) =
+    draw_member file.now suite member drawing progress
 task_view (Vectors file) = vectors file.now
 
 -- a suite is named by its number in hex
@@ -145,8 +150,9 @@ drawn drawing (check file form suite signatures group) = draw file form source.T
 drawn drawing (check_group_info file form signatures) = draw file form source.GroupInfo drawing
 drawn drawing (show file form detail) = show file form detail
 drawn drawing (draw file form source old) = draw file form source old
-drawn drawing (replay file suite view) = replay file suite view
-drawn drawing (draw_member file suite member old) = draw_member file suite member old
+drawn drawing (replay file suite view progress) = replay file suite view progress
+drawn drawing (draw_member file suite member old progress) =
+    draw_member file suite member old progress
 drawn drawing (vectors file) = vectors file
 
 -- there is no such job where it is said how a tree is drawn, and none is
@@ -175,23 +181,28 @@ view_on rows = view_by (option_and_then number_in (first_of (codes "N") rows)) (
 
 -- a member's tree is drawn in place of the replies; there is no such job where another thing is
 -- asked for too
-abbrev pub draw_in_place : Text → SuiteChoice → ℕ → Drawing → ReplayView → Option Task
-draw_in_place file suite member drawing Replies = Some (draw_member file suite member drawing)
-draw_in_place file suite member drawing Unmet = None
-draw_in_place file suite member drawing (Message n) = None
-draw_in_place file suite member drawing (Tree k) = None
-draw_in_place file suite member drawing Recording = None
+abbrev pub draw_in_place : Text → SuiteChoice → ℕ → Drawing → ReplayView → ProgressChoice →
+    Option Task
+draw_in_place file suite member drawing Replies progress =
+    Some (draw_member file suite member drawing progress)
+draw_in_place file suite member drawing Unmet progress = None
+draw_in_place file suite member drawing (Message n) progress = None
+draw_in_place file suite member drawing (Tree k) progress = None
+draw_in_place file suite member drawing Recording progress = None
 
-abbrev pub recording_task : Text → SuiteChoice → Option ℕ → Drawing → ReplayView → Option Task
-recording_task file suite None drawing view = undrawn drawing (replay file suite view)
-recording_task file suite (Some member) drawing view = draw_in_place file suite member drawing view
+abbrev pub recording_task : Text → SuiteChoice → Option ℕ → Drawing → ReplayView → ProgressChoice →
+    Option Task
+recording_task file suite None drawing view progress =
+    undrawn drawing (replay file suite view progress)
+recording_task file suite (Some member) drawing view progress =
+    draw_in_place file suite member drawing view progress
 
 -- there is no such job either where two things are asked for, or two ways to draw
-abbrev pub replay_on : Option Text → Option ℕ → Option Drawing → Option ReplayView → Text
-    → Option Task
-replay_on suite member drawing view file =
+abbrev pub replay_on : Option Text → Option ℕ → Option Drawing → Option ReplayView →
+    ProgressChoice → Text → Option Task
+replay_on suite member drawing view progress file =
     option_and_then (λ s. option_and_then (λ d.
-    option_and_then (λ v. recording_task file s member d v) view) drawing)
+    option_and_then (λ v. recording_task file s member d v progress) view) drawing)
     (option_and_then suite_of suite)
 
 abbrev pub task_on : Text → List Row → Text → Option Task
@@ -204,7 +215,8 @@ task_on name rows file =
     (first_of (codes "HEX") rows) file)
     else if bytes_eq name (codes "replay")
     then replay_on (first_of (codes "SUITE") rows)
-    (option_and_then number_in (first_of (codes "MEMBER") rows)) (drawing_on rows) (view_on rows) file
+    (option_and_then number_in (first_of (codes "MEMBER") rows)) (drawing_on rows) (view_on rows)
+    (progress_by (is_given (first_of (codes "progress") rows))) file
     else if bytes_eq name (codes "vectors") then Some (vectors file)
     else None
 
@@ -218,9 +230,19 @@ file_of (Show file form detail) = file.now
 file_of (Check file form suite signatures group) = file.now
 file_of (CheckGroupInfo file form signatures) = file.now
 file_of (Draw file form source drawing) = file.now
-file_of (Replay file suite view) = file.now
-file_of (DrawMember file suite member drawing) = file.now
+file_of (Replay file suite view progress) = file.now
+file_of (DrawMember file suite member drawing progress) = file.now
 file_of (Vectors file) = file.now
+
+-- where it is said how far a job is, if it is a replay
+abbrev pub progress_of : Job → ProgressChoice
+progress_of (Replay file suite view progress) = progress
+progress_of (DrawMember file suite member drawing progress) = progress
+progress_of (Show file form detail) = OnTerminal
+progress_of (Check file form suite signatures group) = OnTerminal
+progress_of (CheckGroupInfo file form signatures) = OnTerminal
+progress_of (Draw file form source drawing) = OnTerminal
+progress_of (Vectors file) = OnTerminal
 
 -- ---- where there is no job
 
@@ -306,7 +328,7 @@ abbrev pub plain_check : Text → Task
 plain_check file = check file Hex Glass false []
 
 abbrev pub plain_replay : Text → Task
-plain_replay file = replay file Glass Replies
+plain_replay file = replay file Glass Replies OnTerminal
 
 -- a check and a replay with all options
 abbrev pub words_of_check : List Text
@@ -355,6 +377,10 @@ words_of_svg_width =
 
 abbrev pub words_of_no_drawing : List Text
 words_of_no_drawing = codes "replay" ∷ codes "a" ∷ codes "--svg" ∷ []
+
+-- a replay that says how far it is
+abbrev pub words_of_progress : List Text
+words_of_progress = codes "replay" ∷ codes "a" ∷ codes "--progress" ∷ codes "--quiet" ∷ []
 
 -- a replay that asks for two things
 abbrev pub words_of_two_views : List Text

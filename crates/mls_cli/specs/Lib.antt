@@ -7,3 +7,4 @@ pub mod TreeJobs
 pub mod Hints
 pub mod MemberPicture
 pub mod Serving
+pub mod Meter

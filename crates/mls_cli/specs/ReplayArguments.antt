@@ -5,6 +5,8 @@ use Rattle.mls_cli_replay.specs.declared.view.ReplayView.{ReplayView}
 use Rattle.mls_cli_replay.specs.declared.view.ReplayView.TheVariants.{Replies, Unmet, Message, Tree, Recording}
 use Rattle.mls_cli.specs.Drawings.{with_drawing_rules}
 use Rattle.mls_cli.specs.Options.{flag_rule, number_rule}
+use Rattle.mls_cli.specs.declared.tasks.ProgressChoice.{ProgressChoice}
+use Rattle.mls_cli.specs.declared.tasks.ProgressChoice.TheVariants.{Always, OnTerminal}
 
 -- an optional --message N and an optional --tree K, both numbers, and the flags --quiet and --record
 abbrev pub with_view_rules : App → App
@@ -19,6 +21,14 @@ with_view_rules app =
 abbrev pub with_picture_rules : App → App
 with_picture_rules app =
     with_drawing_rules (with_rule app (number_rule (codes "MEMBER") (codes "draw")))
+
+-- and a flag --progress
+abbrev pub with_progress_rule : App → App
+with_progress_rule app = with_rule app (flag_rule (codes "progress"))
+
+abbrev pub progress_by : Bool → ProgressChoice
+progress_by true = Always
+progress_by false = OnTerminal
 
 -- this view, unless another is asked for too
 abbrev pub unless : ReplayView → Bool → Option ReplayView

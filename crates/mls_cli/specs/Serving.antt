@@ -31,6 +31,7 @@ use Rattle.mls_cli.specs.Hints.{hint}
 use Rattle.mls_cli_vectors.specs.VectorsReport.{entry_text, vectors_page}
 use Rattle.mls_cli_text.specs.declared.output.Out.{Out}
 use Rattle.mls_cli.specs.MemberPicture.{IsMemberPicture}
+use Rattle.mls_cli_replay.specs.Progress.{ReportsFile}
 use Rattle.mls_cli_replay.specs.Replay.{PrintsOne}
 use Rattle.mls_cli_replay.specs.Views.{IsView}
 use Rattle.mls_cli_replay.specs.declared.view.ReplayView.{ReplayView}
@@ -64,8 +65,8 @@ IsPrintout (job.CheckGroupInfo file form signatures) text p =
     p ≡ printout line_text (file_page form text (group_info_page glass (checking choice.Suite0001 signatures) form text))
 IsPrintout (job.Draw file form source drawing) text p =
     p ≡ drawing_printout form source drawing text
-IsPrintout (job.Replay file suite view) text p = IsView (crypto_of suite) view text p
-IsPrintout (job.DrawMember file suite member drawing) text p =
+IsPrintout (job.Replay file suite view progress) text p = IsView (crypto_of suite) view text p
+IsPrintout (job.DrawMember file suite member drawing progress) text p =
     IsMemberPicture (crypto_of suite) member drawing text p
 IsPrintout (job.Vectors file) text p = p ≡ printout entry_text (vectors_page text)
 
@@ -75,8 +76,8 @@ remark (job.Show file form detail) text = hint form text
 remark (job.Check file form suite signatures group) text = hint form text
 remark (job.CheckGroupInfo file form signatures) text = hint form text
 remark (job.Draw file form source drawing) text = hint form text
-remark (job.Replay file suite view) text = []
-remark (job.DrawMember file suite member drawing) text = []
+remark (job.Replay file suite view progress) text = []
+remark (job.DrawMember file suite member drawing progress) text = []
 remark (job.Vectors file) text = []
 
 -- the output grows by the text of such a printout, with its status; or the status is 3, and it grows by less than such a
@@ -159,8 +160,8 @@ read_of (job.Show file form detail) text = take (suc (file_limit form)) text
 read_of (job.Check file form suite signatures group) text = take (suc (file_limit form)) text
 read_of (job.CheckGroupInfo file form signatures) text = take (suc (file_limit form)) text
 read_of (job.Draw file form source drawing) text = take (suc (file_limit form)) text
-read_of (job.Replay file suite view) text = text
-read_of (job.DrawMember file suite member drawing) text = text
+read_of (job.Replay file suite view progress) text = text
+read_of (job.DrawMember file suite member drawing progress) text = text
 read_of (job.Vectors file) text = text
 
 -- this is what a job reads of all that a reader has left, where that is known
@@ -225,3 +226,32 @@ abbrev pub EndsWith : {E : Type 0} → (E → Option (List ℕ)) → Out E → O
 EndsWith contents old new Remarked file status unreadable written =
     Ends Remarked file status unreadable written
     (contents (out_writer old)) (contents (out_writer new)) (out_failed new)
+
+-- ---- what is reported of how far a job is
+
+-- a report behind each event of a replay, and no other
+abbrev pub ReportsJob : {P : Type 0} → (P → P → ℕ → ℕ → Type 0) → Job → List ℕ → P → P →
+    Result ℕ Fault → Type 0
+ReportsJob reports (job.Show file form detail) text old new result = new ≡ old
+ReportsJob reports (job.Check file form suite signatures group) text old new result = new ≡ old
+ReportsJob reports (job.CheckGroupInfo file form signatures) text old new result = new ≡ old
+ReportsJob reports (job.Draw file form source drawing) text old new result = new ≡ old
+ReportsJob reports (job.Replay file suite view progress) text old new result =
+    ReportsFile reports (crypto_of suite) text old new result
+ReportsJob reports (job.DrawMember file suite member drawing progress) text old new result =
+    ReportsFile reports (crypto_of suite) text old new result
+ReportsJob reports (job.Vectors file) text old new result = new ≡ old
+
+-- of all that a reader has left, where nothing failed
+abbrev pub ReportsRead : {I P : Type 0} → (I → Option (List ℕ)) → (P → P → ℕ → ℕ → Type 0) → Job →
+    I → P → P → ℕ → Type 0
+ReportsRead remaining reports j reader old new status =
+    (text : List ℕ) × ReadsFile remaining j reader text
+    × ReportsJob reports j text old new (Ok status)
+
+-- of a file that can be opened, where nothing failed, as the status says
+abbrev pub ReportsOn : {I P : Type 0} → (I → Option (List ℕ)) → (P → P → ℕ → ℕ → Type 0) → Job →
+    Option I → P → P → ℕ → Type 0
+ReportsOn {I} remaining reports j file old new status =
+    status ≤ 1
+    → IfSome file (λ (reader : I). ReportsRead remaining reports j reader old new status)

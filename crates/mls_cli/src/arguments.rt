@@ -3,7 +3,7 @@
 ghost use Rattle.std.specs.Prelude.{◌≡◌, map, true, false, codes, Ok, Err, Some, None, IfOk, IfErr, IsSome, OnOk, ◌⊎◌, ◌∷◌, [], option_and_then, option_map};
 ghost use Rattle.clap.specs.Words.{app_of, shape_of, first_of, found_of, kind_of, matches_of, rows_of, rule_of, subcommand_of, subcommand_rows_of, takes, fault_of, FailsBy, HasKind};
 ghost use Rattle.clap.specs.declared.Command.TheViews.{out-Command as fields_of};
-ghost use Rattle.mls_cli.specs.Arguments.{ComesOf, ExplainsWords, check, check_group_info, draw, draw_member, drawing_on, faults_behind, found_in, found_rows, given, maybe_task, mls, plain_check, plain_replay, plain_show, recording_task, replay, replay_on, show, task_behind, task_in, task_of, task_on, task_view, vectors, view_on, with_version, words_of_check, words_of_draw, words_of_draw_info, words_of_info, words_of_no_drawing, words_of_no_number, words_of_picture, words_of_picture_and_message, words_of_quiet, words_of_record, words_of_replay, words_of_svg, words_of_svg_width, words_of_tree, words_of_two_views};
+ghost use Rattle.mls_cli.specs.Arguments.{ComesOf, ExplainsWords, check, check_group_info, draw, draw_member, drawing_on, faults_behind, found_in, found_rows, given, maybe_task, mls, plain_check, plain_replay, plain_show, recording_task, replay, replay_on, show, task_behind, task_in, task_of, task_on, task_view, vectors, view_on, with_version, words_of_check, words_of_draw, words_of_draw_info, words_of_info, words_of_no_drawing, words_of_no_number, words_of_picture, words_of_picture_and_message, words_of_progress, words_of_quiet, words_of_record, words_of_replay, words_of_svg, words_of_svg_width, words_of_tree, words_of_two_views};
 ghost use Rattle.mls_cli.specs.ExplainArguments.{unless_asked};
 ghost use Rattle.mls_cli.specs.Options.{number_in};
 ghost use Rattle.mls_cli.specs.TreeJobs.{tree_check_on, tree_job_on};
@@ -12,9 +12,9 @@ use crate::check_options::{check_command, check_on, drawn_if, undrawn};
 use crate::drawing_options::drawing_by;
 use crate::explain_arguments::{explain_arg, without_job};
 use crate::options::{file_command, is_given, number_in, suite_of};
-use crate::replay_arguments::{replay_command, view_by};
+use crate::replay_arguments::{progress_by, replay_command, view_by};
 use crate::show_options::{show_command, show_on};
-use crate::tasks::{Job, NoJob, SuiteChoice};
+use crate::tasks::{Job, NoJob, ProgressChoice, SuiteChoice};
 use clap::error::ErrorKind;
 use clap::{ArgMatches, Command, Error};
 use mls_cli_check::{Drawing, TreeSource};
@@ -104,17 +104,28 @@ fn recording_job<'a>(
     member: Option<usize>,
     drawing: Drawing,
     view: ReplayView,
+    progress: ProgressChoice,
 ) -> Option<Job<'a>>
-    ensures { maybe_task result ≡ recording_task file.entry.now suite member drawing view }
+    ensures { maybe_task result
+        ≡ recording_task file.entry.now suite member drawing view progress }
 {
     match member {
-        None => undrawn(drawing, Job::Replay { file, suite, view }),
+        None => undrawn(
+            drawing,
+            Job::Replay {
+                file,
+                suite,
+                view,
+                progress,
+            },
+        ),
         Some(member) => match view {
             ReplayView::Replies => Some(Job::DrawMember {
                 file,
                 suite,
                 member,
                 drawing,
+                progress,
             }),
             ReplayView::Unmet
             | ReplayView::Message(_)
@@ -131,12 +142,14 @@ fn replay_on<'a>(
     member: Option<usize>,
     drawing: Option<Drawing>,
     view: Option<ReplayView>,
+    progress: ProgressChoice,
     file: &'a str,
 ) -> Option<Job<'a>>
-    ensures { maybe_task result ≡ replay_on (given suite.entry) member drawing view file.entry.now }
+    ensures { maybe_task result
+        ≡ replay_on (given suite.entry) member drawing view progress file.entry.now }
 {
     let chosen = suite_of(suite?)?;
-    recording_job(file, chosen, member, drawing?, view?)
+    recording_job(file, chosen, member, drawing?, view?, progress)
 }
 
 /// The check of a tree that the options and FILE stand for, or None where no suite has that name.
@@ -176,6 +189,7 @@ fn job_on<'a>(name: &str, matches: &ArgMatches<'a>, file: &'a str) -> Option<Job
             number_if_any(value_of(matches, "MEMBER")),
             drawing_on(matches),
             view_on(matches),
+            progress_by(is_given(value_of(matches, "progress"))),
             file,
         ),
         "vectors" => Some(Job::Vectors { file }),
@@ -400,17 +414,24 @@ pub fn examples()
     ensures draws_info { task_behind words_of_draw_info
         ≡ Some (draw (codes "a") Form.Hex TreeSource.GroupInfo (Drawing.Text (Some 40))) }
     ensures message { task_behind words_of_replay
-        ≡ Some (replay (codes "a") SuiteChoice.Suite0001 (ReplayView.Message 12)) }
+        ≡ Some (replay (codes "a") SuiteChoice.Suite0001 (ReplayView.Message 12)
+        ProgressChoice.OnTerminal) }
     ensures tree { task_behind words_of_tree
-        ≡ Some (replay (codes "a") SuiteChoice.Glass (ReplayView.Tree 3)) }
+        ≡ Some (replay (codes "a") SuiteChoice.Glass (ReplayView.Tree 3)
+        ProgressChoice.OnTerminal) }
     ensures quiet { task_behind words_of_quiet
-        ≡ Some (replay (codes "a") SuiteChoice.Glass ReplayView.Unmet) }
+        ≡ Some (replay (codes "a") SuiteChoice.Glass ReplayView.Unmet ProgressChoice.OnTerminal) }
+    ensures progress { task_behind words_of_progress
+        ≡ Some (replay (codes "a") SuiteChoice.Glass ReplayView.Unmet ProgressChoice.Always) }
     ensures recorded { task_behind words_of_record
-        ≡ Some (replay (codes "a") SuiteChoice.Glass ReplayView.Recording) }
+        ≡ Some (replay (codes "a") SuiteChoice.Glass ReplayView.Recording
+        ProgressChoice.OnTerminal) }
     ensures picture { task_behind words_of_picture
-        ≡ Some (draw_member (codes "a") SuiteChoice.Glass 3 (Drawing.Text (Some 40))) }
+        ≡ Some (draw_member (codes "a") SuiteChoice.Glass 3 (Drawing.Text (Some 40))
+        ProgressChoice.OnTerminal) }
     ensures svg { task_behind words_of_svg
-        ≡ Some (draw_member (codes "a") SuiteChoice.Glass 3 Drawing.Svg) }
+        ≡ Some (draw_member (codes "a") SuiteChoice.Glass 3 Drawing.Svg
+        ProgressChoice.OnTerminal) }
     ensures svg_width { task_behind words_of_svg_width ≡ None }
     ensures no_drawing { task_behind words_of_no_drawing ≡ None }
     ensures picture_and_message { task_behind words_of_picture_and_message ≡ None }

@@ -11,6 +11,7 @@ mod drawing_options;
 mod explain_arguments;
 mod hints;
 mod member_picture;
+mod meter;
 mod options;
 mod replay_arguments;
 mod serving;
@@ -19,12 +20,14 @@ mod source;
 mod tasks;
 
 use arguments::{job, no_text};
+use meter::{Meter, Pace, pace_of};
+use mls_cli_replay::Silent;
 use mls_cli_text::{In, Out};
 use serving::serve;
 use source::Source;
 use std::alloc::{AllocError, Global};
 use std::fs::File;
-use std::io::ErrorKind;
+use std::io::{ErrorKind, IsTerminal, Stderr};
 use std::process::ExitCode;
 use tasks::{Job, NoJob};
 
@@ -80,6 +83,19 @@ fn open_file_of(rt: &HostRuntime, job: &Result<Job<'_>, NoJob>) -> Option<In<Sou
     }
 }
 
+/// What says on the errors how far the job is.
+fn meter_of<'a>(
+    rt: &'a HostRuntime,
+    job: &Result<Job<'_>, NoJob>,
+) -> Meter<'a, HostRuntime, Stderr> {
+    let errors = rt.stderr();
+    let pace = match job {
+        Ok(job) => pace_of(job.progress(), errors.is_terminal()),
+        Err(_) => Pace::Never,
+    };
+    Meter::new(errors, rt, pace)
+}
+
 /// Serves the job that the words name, and answers the exit status.
 fn run(rt: &HostRuntime) -> u8 {
     let alloc = rt.alloc();
@@ -89,11 +105,19 @@ fn run(rt: &HostRuntime) -> u8 {
         Ok(words) => {
             let job = job(alloc, words.as_slice());
             let mut file = open_file_of(rt, &job);
-            serve(alloc, &job, &mut file, &mut out, &mut err)
+            let mut progress = meter_of(rt, &job);
+            serve(alloc, &job, &mut file, &mut out, &mut err, &mut progress)
         }
         Err(no_job) => {
             let mut none: Option<In<Source>> = None;
-            serve(alloc, &Err(no_job), &mut none, &mut out, &mut err)
+            serve(
+                alloc,
+                &Err(no_job),
+                &mut none,
+                &mut out,
+                &mut err,
+                &mut Silent,
+            )
         }
     }
 }

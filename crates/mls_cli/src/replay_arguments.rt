@@ -4,10 +4,11 @@ ghost use Rattle.std.specs.Prelude.{◌≡◌, false, IfOk};
 ghost use Rattle.clap.specs.Words.{app_of};
 ghost use Rattle.clap.specs.declared.Command.TheViews.{out-Command as fields_of};
 ghost use Rattle.mls_cli.specs.Arguments.{replay_app};
-ghost use Rattle.mls_cli.specs.ReplayArguments.{unless, view_by, view_by_flags, view_by_tree, with_picture_rules};
+ghost use Rattle.mls_cli.specs.ReplayArguments.{progress_by, unless, view_by, view_by_flags, view_by_tree, with_picture_rules};
 
 use crate::drawing_options::with_drawing_options;
 use crate::options::{file_command, flag_arg, number_arg, suite_arg};
+use crate::tasks::ProgressChoice;
 use clap::Command;
 use mls_cli_replay::ReplayView;
 use std::alloc::{AllocError, Global};
@@ -47,7 +48,13 @@ pub fn replay_command<'a>(alloc: Global) -> Result<Command<'a>, AllocError>
     let with_tree = with_message.arg(tree)?;
     let with_quiet = with_tree.arg(quiet)?;
     let with_record = with_quiet.arg(record)?;
-    with_picture(alloc, with_record)
+    let progress = flag_arg(
+        alloc,
+        "progress",
+        "Says on standard error at each hundredth how many events are done",
+    );
+    let with_all = with_picture(alloc, with_record)?;
+    with_all.arg(progress)
 }
 
 /// The command with the options of a member's picture.
@@ -109,5 +116,16 @@ pub fn view_by(
             tree.is_some() || quiet || again,
         ),
         None => view_by_tree(tree, quiet, again),
+    }
+}
+
+/// Where it is said how far a replay is, by whether --progress is given.
+pub fn progress_by(asked: bool) -> ProgressChoice
+    ensures { result ≡ progress_by asked }
+{
+    if asked {
+        ProgressChoice::Always
+    } else {
+        ProgressChoice::OnTerminal
     }
 }

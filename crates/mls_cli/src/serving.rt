@@ -9,10 +9,11 @@ ghost use Rattle.mls_cli_check.specs.Check.{check_page};
 ghost use Rattle.mls_cli_check.specs.Drawing.{draw_page};
 ghost use Rattle.mls_cli_check.specs.GroupInfo.{group_info_page};
 ghost use Rattle.mls_cli_draw.specs.Picture.{DrawsPage};
+ghost use Rattle.mls_cli_replay.specs.Progress.{ReportsFile};
 ghost use Rattle.mls_suite.specs.Glass.{glass};
 ghost use Rattle.mls_cli_explain.specs.Explanations.{explanation_view};
 ghost use Rattle.mls_cli.specs.Arguments.{file_of};
-ghost use Rattle.mls_cli.specs.Serving.{BeginsError, EndsWith, EndsWithoutJob, KeepsUnread, PrintsFile, PrintsPicture, PrintsRead, PrintsRecording, PrintsText, ReadsFile, Remarks, RemarksOn, Says, ShowsHelp, ShowsTold, WritesError, checking, drawing_printout, fault_text, file_page, out_of_memory as memory_text, remark, unread, unreadable};
+ghost use Rattle.mls_cli.specs.Serving.{BeginsError, EndsWith, EndsWithoutJob, KeepsUnread, PrintsFile, PrintsPicture, PrintsRead, PrintsRecording, PrintsText, ReadsFile, ReportsJob, ReportsOn, ReportsRead, Remarks, RemarksOn, Says, ShowsHelp, ShowsTold, WritesError, checking, crypto_of, drawing_printout, fault_text, file_page, out_of_memory as memory_text, remark, unread, unreadable};
 
 use crate::hints::hint;
 use crate::member_picture::print_member;
@@ -20,7 +21,7 @@ use crate::tasks::{Job, NoJob, SuiteChoice};
 use mls_cli_check::{Drawing, TreeSource, Unchecked, check_page, draw_page, group_info_page};
 use mls_cli_draw::Row;
 use mls_cli_explain::{Explanation, told_page};
-use mls_cli_replay::{ReplayView, print_view};
+use mls_cli_replay::{Progress, ReplayView, print_view};
 use mls_cli_show::{Detail, show_page};
 use mls_cli_text::{Fault, Form, Input, Line, Out, Output, Page, print_made_page, refused_page};
 use mls_cli_vectors::vectors_page;
@@ -31,12 +32,13 @@ use std::io::Write;
 
 /// Serves a job, or says why there is none, and answers the exit status: 0 good, 1 refused content,
 /// 2 usage, 3 a fault of the file, the output or memory. The file is None where it can't be opened.
-pub fn serve<I: Input, O: Output, E: Write>(
+pub fn serve<I: Input, O: Output, E: Write, P: Progress>(
     alloc: Global,
     job: &Result<Job<'_>, NoJob>,
     file: &mut Option<I>,
     out: &mut O,
     err: &mut Out<E>,
+    progress: &mut P,
 ) -> u8
     requires fresh_file { IfSome file.old (λ reader. I.failed reader ≡ false) }
     requires fresh_out { O.failed out.old ≡ false }
@@ -49,6 +51,9 @@ pub fn serve<I: Input, O: Output, E: Write>(
         (unread I.failed file.new) (O.failed out.new)) }
     // A file that can't be read leaves the output as it was.
     ensures unread { IfOk job.now (λ _. KeepsUnread I.failed O.contents file.new out.old out.new) }
+    // Each event of a replay is reported, in order.
+    ensures reports { IfOk job.now (λ j.
+        ReportsOn I.remaining P.reports j file.old progress.old progress.new result) }
     // Without a job help or the version is written, or a mistake or want of memory said.
     ensures unasked { IfErr job.now (λ e.
         EndsWithoutJob e result (O.contents out.old) (O.contents out.new) (O.failed out.new)
@@ -56,17 +61,18 @@ pub fn serve<I: Input, O: Output, E: Write>(
     ensures same { is_some file.new ≡ is_some file.old }
 {
     match job {
-        Ok(job) => serve_job(alloc, job, file, out, err),
+        Ok(job) => serve_job(alloc, job, file, out, err, progress),
         Err(no_job) => answer_without_job(alloc, no_job, out, err),
     }
 }
 
-fn serve_job<I: Input, O: Output, E: Write>(
+fn serve_job<I: Input, O: Output, E: Write, P: Progress>(
     alloc: Global,
     job: &Job<'_>,
     file: &mut Option<I>,
     out: &mut O,
     err: &mut Out<E>,
+    progress: &mut P,
 ) -> u8
     requires fresh_file { IfSome file.old (λ reader. I.failed reader ≡ false) }
     requires fresh_out { O.failed out.old ≡ false }
@@ -75,6 +81,8 @@ fn serve_job<I: Input, O: Output, E: Write>(
         (RemarksOn I.remaining E.contents job.now file.old err.old err.new) (file_of job.now) result
         (unread I.failed file.new) (O.failed out.new) }
     ensures unread { KeepsUnread I.failed O.contents file.new out.old out.new }
+    ensures reports { ReportsOn I.remaining P.reports job.now file.old progress.old progress.new
+        result }
     ensures same { is_some file.new ≡ is_some file.old }
 {
     match file {
@@ -82,7 +90,7 @@ fn serve_job<I: Input, O: Output, E: Write>(
             say_fault(Fault::Read, job.file(), err);
             3
         }
-        Some(reader) => match print_job(alloc, job, reader, out, err) {
+        Some(reader) => match print_job(alloc, job, reader, out, err, progress) {
             Ok(status) => status,
             Err(fault) => {
                 say_fault(fault, job.file(), err);
@@ -93,12 +101,13 @@ fn serve_job<I: Input, O: Output, E: Write>(
 }
 
 /// Prints what the job asks for, says what is remarked of the file, and answers the exit status.
-fn print_job<I: Input, O: Output, E: Write>(
+fn print_job<I: Input, O: Output, E: Write, P: Progress>(
     alloc: Global,
     job: &Job<'_>,
     file: &mut I,
     out: &mut O,
     err: &mut Out<E>,
+    progress: &mut P,
 ) -> Result<u8, Fault>
     ensures prints { PrintsRead I.remaining O.contents job.now file.old out.old out.new result }
     ensures status { IfOk result (λ status. status ≤ 1) }
@@ -108,9 +117,11 @@ fn print_job<I: Input, O: Output, E: Write>(
     ensures unread { result ≡ Err Fault.Read → Keeps (O.contents out.old) (O.contents out.new) }
     ensures said { OnOk result (Remarks I.remaining E.contents job.now file.old err.old err.new) }
     ensures silent { OnErr result (err.new ≡ err.old) }
+    ensures reports { IfOk result (ReportsRead I.remaining P.reports job.now file.old
+        progress.old progress.new) }
 {
     let text = read_file(alloc, job, file)?;
-    match print_text(alloc, job, text.as_slice(), out) {
+    match print_text(alloc, job, text.as_slice(), out, progress) {
         Ok(status) => {
             say(remark(job, text.as_slice()), err);
             Ok(status)
@@ -155,16 +166,18 @@ fn read_file<I: Input>(alloc: Global, job: &Job<'_>, file: &mut I) -> Result<Vec
 }
 
 /// Prints what the job asks for of a file's text.
-fn print_text<O: Output>(
+fn print_text<O: Output, P: Progress>(
     alloc: Global,
     job: &Job<'_>,
     text: &[u8],
     out: &mut O,
+    progress: &mut P,
 ) -> Result<u8, Fault>
     ensures prints { PrintsText O.contents job.now text.now out.old out.new result }
     ensures status { IfOk result (λ status. status ≤ 1) }
     ensures write { O.failed out.new ≡ write_failed (O.failed out.old) result }
     ensures written { IfErr result (λ e. e ≢ Fault.Read) }
+    ensures reports { ReportsJob P.reports job.now text.now progress.old progress.new result }
 {
     match job {
         Job::Show { form, detail, .. } => {
@@ -192,13 +205,15 @@ fn print_text<O: Output>(
             drawing,
             ..
         } => print_drawing(alloc, *form, *source, *drawing, text, out),
-        Job::Replay { suite, view, .. } => print_recording(alloc, *suite, *view, text, out),
+        Job::Replay { suite, view, .. } => {
+            print_recording(alloc, *suite, *view, text, out, progress)
+        }
         Job::DrawMember {
             suite,
             member,
             drawing,
             ..
-        } => print_picture(alloc, *suite, *member, *drawing, text, out),
+        } => print_picture(alloc, *suite, *member, *drawing, text, out, progress),
         Job::Vectors { .. } => print_made_page(alloc, vectors_page(alloc, text), out),
     }
 }
@@ -332,41 +347,51 @@ fn print_drawing<O: Output>(
 }
 
 /// Prints what is asked for of a recording for the suite.
-fn print_recording<O: Output>(
+fn print_recording<O: Output, P: Progress>(
     alloc: Global,
     suite: SuiteChoice,
     view: ReplayView,
     text: &[u8],
     out: &mut O,
+    progress: &mut P,
 ) -> Result<u8, Fault>
     ensures prints { PrintsRecording O.contents suite view text.now out.old out.new result }
     ensures status { IfOk result (λ status. status ≤ 1) }
     ensures write { O.failed out.new ≡ write_failed (O.failed out.old) result }
     ensures written { IfErr result (λ e. e ≢ Fault.Read) }
+    ensures reports { ReportsFile P.reports (crypto_of suite) text.now progress.old progress.new
+        result }
 {
     match suite {
-        SuiteChoice::Glass => print_view::<Glass, O>(alloc, text, view, out),
-        SuiteChoice::Suite0001 => print_view::<Suite0001, O>(alloc, text, view, out),
+        SuiteChoice::Glass => print_view::<Glass, O, P>(alloc, text, view, out, progress),
+        SuiteChoice::Suite0001 => print_view::<Suite0001, O, P>(alloc, text, view, out, progress),
     }
 }
 
 /// Prints the picture of the tree of a recording's member for the suite.
-fn print_picture<O: Output>(
+fn print_picture<O: Output, P: Progress>(
     alloc: Global,
     suite: SuiteChoice,
     member: usize,
     drawing: Drawing,
     text: &[u8],
     out: &mut O,
+    progress: &mut P,
 ) -> Result<u8, Fault>
     ensures prints { PrintsPicture O.contents suite member drawing text.now out.old out.new result }
     ensures status { IfOk result (λ status. status ≤ 1) }
     ensures write { O.failed out.new ≡ write_failed (O.failed out.old) result }
     ensures written { IfErr result (λ e. e ≢ Fault.Read) }
+    ensures reports { ReportsFile P.reports (crypto_of suite) text.now progress.old progress.new
+        result }
 {
     match suite {
-        SuiteChoice::Glass => print_member::<Glass, O>(alloc, text, member, drawing, out),
-        SuiteChoice::Suite0001 => print_member::<Suite0001, O>(alloc, text, member, drawing, out),
+        SuiteChoice::Glass => {
+            print_member::<Glass, O, P>(alloc, text, member, drawing, out, progress)
+        }
+        SuiteChoice::Suite0001 => {
+            print_member::<Suite0001, O, P>(alloc, text, member, drawing, out, progress)
+        }
     }
 }
 

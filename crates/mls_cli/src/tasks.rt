@@ -16,6 +16,15 @@ pub enum SuiteChoice {
     Suite0001,
 }
 
+/// Where it is said how far a replay is.
+#[derive(Clone, Copy, Debug, PartialEq, Eq)]
+pub enum ProgressChoice {
+    /// On a terminal, of replays that take more than two seconds.
+    OnTerminal,
+    /// Wherever the errors go, of each replay.
+    Always,
+}
+
 /// What the program is asked to do, as the words of its command line name it.
 #[derive(Clone, Copy, Debug)]
 pub enum Job<'a> {
@@ -69,6 +78,8 @@ pub enum Job<'a> {
         suite: SuiteChoice,
         /// What is printed of it.
         view: ReplayView,
+        /// Where it is said how far it is.
+        progress: ProgressChoice,
     },
     /// Draw the ratchet tree that a member of a recording has in the end.
     DrawMember {
@@ -80,6 +91,8 @@ pub enum Job<'a> {
         member: usize,
         /// How it is drawn.
         drawing: Drawing,
+        /// Where it is said how far the replay is.
+        progress: ProgressChoice,
     },
     /// Judge the test vectors that stand as JSON in a file.
     Vectors {
@@ -90,7 +103,7 @@ pub enum Job<'a> {
 
 impl<'a> Job<'a> {
     ghost use Rattle.std.specs.Prelude.{◌≡◌};
-    ghost use Rattle.mls_cli.specs.Arguments.{file_of};
+    ghost use Rattle.mls_cli.specs.Arguments.{file_of, progress_of};
 
     /// The path of the file that the job reads.
     pub fn file(&self) -> &'a str
@@ -104,6 +117,20 @@ impl<'a> Job<'a> {
             | Job::Replay { file, .. }
             | Job::DrawMember { file, .. }
             | Job::Vectors { file } => file,
+        }
+    }
+
+    /// Where it is said how far the job is, if it is a replay.
+    pub fn progress(&self) -> ProgressChoice
+        ensures { result ≡ progress_of self.now }
+    {
+        match self {
+            Job::Replay { progress, .. } | Job::DrawMember { progress, .. } => *progress,
+            Job::Show { .. }
+            | Job::Check { .. }
+            | Job::CheckGroupInfo { .. }
+            | Job::Draw { .. }
+            | Job::Vectors { .. } => ProgressChoice::OnTerminal,
         }
     }
 }

@@ -5,6 +5,7 @@ mod drawings;
 mod ends;
 mod extensions;
 mod options;
+mod progress;
 mod replay;
 mod rows;
 mod shown;
@@ -19,6 +20,7 @@ use crate::arguments::{job, no_text};
 use crate::serving::serve;
 use crate::tasks::{Job, NoJob};
 use crate::tests::vectors::repeat_text;
+use mls_cli_replay::Silent;
 use mls_cli_text::{In, Out};
 use std::alloc::{AllocError, Global};
 use std::io;
@@ -47,7 +49,7 @@ const CHECK_HELP: &str =
     "Checks a ratchet tree\n\nUsage: mls check [OPTIONS] <FILE>\n\nArguments:\n  <FILE>  A ratchet tree in hex, or - for the standard input\n\nOptions:\n      --suite <SUITE>  The group's cipher suite, f001 or 0001 [default: f001]\n      --group <HEX>    The group's id, empty by default\n      --signatures     Checks signatures and keys under suite 0001 too\n      --group-info     Checks a GroupInfo message, which has suite, id and tree\n      --raw            Reads bytes as they are, and not hex\n      --draw           Draws the tree, and checks nothing of it\n      --width <WIDTH>  Cuts each row of a drawing to so many columns\n      --svg            Makes a drawing an SVG file\n  -h, --help           Print help\n\nExample:\n  mls check examples/group_tree.hex --group 67\n";
 
 const REPLAY_HELP: &str =
-    "Replays a recording of groups\n\nUsage: mls replay [OPTIONS] <FILE>\n\nArguments:\n  <FILE>  A recording in JSON, or - for the standard input\n\nOptions:\n      --suite <SUITE>  The group's cipher suite, f001 or 0001 [default: f001]\n      --message <N>    Prints this message in hex, in place of the replies\n      --tree <K>       Prints this member's ratchet tree in hex, in place of the replies\n      --quiet          Leaves out replies that are as expected\n      --record         Prints the recording with these replies as those that it expects\n      --draw <MEMBER>  Draws this member's ratchet tree, in place of the replies\n      --width <WIDTH>  Cuts each row of a drawing to so many columns\n      --svg            Makes a drawing an SVG file\n  -h, --help           Print help\n\nExample:\n  mls replay examples/group.json --quiet\n";
+    "Replays a recording of groups\n\nUsage: mls replay [OPTIONS] <FILE>\n\nArguments:\n  <FILE>  A recording in JSON, or - for the standard input\n\nOptions:\n      --suite <SUITE>  The group's cipher suite, f001 or 0001 [default: f001]\n      --message <N>    Prints this message in hex, in place of the replies\n      --tree <K>       Prints this member's ratchet tree in hex, in place of the replies\n      --quiet          Leaves out replies that are as expected\n      --record         Prints the recording with these replies as those that it expects\n      --draw <MEMBER>  Draws this member's ratchet tree, in place of the replies\n      --width <WIDTH>  Cuts each row of a drawing to so many columns\n      --svg            Makes a drawing an SVG file\n      --progress       Says on standard error at each hundredth how many events are done\n  -h, --help           Print help\n\nExample:\n  mls replay examples/group.json --quiet\n";
 
 const VECTORS_HELP: &str =
     "Judges test vectors\n\nUsage: mls vectors <FILE>\n\nArguments:\n  <FILE>  A JSON array of vectors, or - for the standard input\n\nOptions:\n  -h, --help  Print help\n\nExample:\n  mls vectors examples/vectors.json\n";
@@ -82,7 +84,14 @@ fn serve_words(
     let mut file = file;
     let mut out = Vec::new(alloc);
     let mut held = Vec::new(alloc);
-    let status = serve(alloc, job, &mut file, &mut out, &mut Out::new(&mut held));
+    let status = serve(
+        alloc,
+        job,
+        &mut file,
+        &mut out,
+        &mut Out::new(&mut held),
+        &mut Silent,
+    );
     unless_out_of_memory(status, held.as_slice())?;
     Ok(Outcome {
         status,
@@ -312,6 +321,7 @@ fn says_that_memory_is_wanting(rt: HostRuntime) -> Result<(), Fail> {
         &mut none,
         &mut out,
         &mut Out::new(&mut held),
+        &mut Silent,
     );
     assert_eq!(rt; status, 3);
     assert!(rt; out.is_empty());
@@ -337,6 +347,7 @@ fn stops_where_a_write_fails(rt: HostRuntime) -> Result<(), Fail> {
                 &mut file,
                 &mut Out::new(&mut full),
                 &mut Out::new(&mut held),
+                &mut Silent,
             );
             unless_out_of_memory(status, held.as_slice())?;
             assert_eq!(rt; status, if room < text.len() { 3 } else { 0 });
@@ -358,7 +369,14 @@ fn stops_where_a_read_fails(rt: HostRuntime) -> Result<(), Fail> {
         let mut broken = Some(In::new(Broken {
             rest: &KEY_PACKAGE.as_bytes()[..given],
         }));
-        let status = serve(alloc, &job, &mut broken, &mut out, &mut Out::new(&mut held));
+        let status = serve(
+            alloc,
+            &job,
+            &mut broken,
+            &mut out,
+            &mut Out::new(&mut held),
+            &mut Silent,
+        );
         unless_out_of_memory(status, held.as_slice())?;
         assert_eq!(rt; status, 3);
         assert!(rt; out.is_empty());
@@ -377,7 +395,14 @@ fn says_what_fails_as_far_as_it_can(rt: HostRuntime) -> Result<(), Fail> {
         let mut none: Option<&[u8]> = None;
         let mut out = Vec::new(alloc);
         let mut full = with_room(alloc, room)?;
-        let status = serve(alloc, &job, &mut none, &mut out, &mut Out::new(&mut full));
+        let status = serve(
+            alloc,
+            &job,
+            &mut none,
+            &mut out,
+            &mut Out::new(&mut full),
+            &mut Silent,
+        );
         if let Err(NoJob::OutOfMemory) = &job {
             return Err(Fail::from(AllocError));
         }

@@ -1,10 +1,11 @@
--- A recording, written again with what a replay of it came to: each event's reply as its `expect`, and in version 2 the lines
--- of members in the end as `final`.
-use Rattle.std.specs.Prelude.{◌≡◌, ◌≤◌, ◌==◌, ℕ, ◌+◌, Bool, false, List, [], ◌∷◌, codes, map, slice_get, if◌then◌else◌, Option, Some, None}
+-- A recording, written again with what a replay of it came to: each event's reply as its `expect`,
+-- and in version 2 the lines of members in the end as `final`.
+use Rattle.std.specs.Prelude.{◌≡◌, ◌≤◌, ◌==◌, ℕ, ◌+◌, Bool, false, List, [], ◌∷◌, codes, slice_get, if◌then◌else◌, Option, Some, None, option_map, string_bytes}
+use Rattle.std.specs.Global.{Global}
+use Rattle.std.specs.declared.string.String.{String}
 use Rattle.json.specs.Layout.{pretty}
 use Rattle.json.specs.Lex.{tokens}
-use Rattle.serde_json.specs.Data.{Data, null, boolean, number, string, array, object, Items, no_items, item, Members, depth, put}
-use Rattle.serde_json.specs.Find.{as_str}
+use Rattle.serde_json.specs.Data.{Data, null, boolean, number, string, array, object, Items, no_items, item, depth, put}
 use Rattle.serde_json.specs.Read.{read, max_depth}
 use Rattle.serde_json.specs.Written.{IsInOrder}
 use Rattle.mls_cli_json.specs.Json.{items_at, number_at}
@@ -26,11 +27,13 @@ expecting (Some reply) d = with_member (codes "expect") (string reply) d
 -- the events from number k on, each with the reply of its number
 unfoldable pub expecting_each : ℕ → List (List ℕ) → Items → Items
 expecting_each k replies no_items = no_items
-expecting_each k replies (item d ds) = item (expecting (slice_get replies k) d) (expecting_each (k + 1) replies ds)
+expecting_each k replies (item d ds) =
+    item (expecting (slice_get replies k) d) (expecting_each (k + 1) replies ds)
 
 abbrev pub with_events : List (List ℕ) → Option Items → Data → Data
 with_events replies None d = d
-with_events replies (Some events) d = with_member (codes "events") (array (expecting_each 0 replies events)) d
+with_events replies (Some events) d =
+    with_member (codes "events") (array (expecting_each 0 replies events)) d
 
 -- a recording whose events expect these replies
 abbrev pub with_replies : List (List ℕ) → Data → Data
@@ -48,7 +51,8 @@ has_version (Some version) n = version == n
 -- a recording that expects these lines in the end, where it is of version 2
 abbrev pub with_lines : List (List ℕ) → Data → Data
 with_lines lines d =
-    if has_version (number_at (codes "version") d) 2 then with_member (codes "final") (array (text_items lines)) d else d
+    if has_version (number_at (codes "version") d) 2
+    then with_member (codes "final") (array (text_items lines)) d else d
 
 -- a recording that expects these replies and these lines
 abbrev pub record_of : List (List ℕ) → List (List ℕ) → Data → Data
@@ -59,3 +63,9 @@ pub record IsTextOf (text : List ℕ) (d : Data) : Type 0 where
   pub order : IsInOrder text d
   pub layout : text ≡ pretty (tokens text)
   pub reads : depth d ≤ max_depth → read text ≡ Some d
+
+-- ---- of the code's values
+
+-- the reply of a number, if there is one
+abbrev pub reply_at : List (String Global) → ℕ → Option (List ℕ)
+reply_at replies k = option_map string_bytes (slice_get replies k)

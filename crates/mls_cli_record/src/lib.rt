@@ -1,11 +1,11 @@
 //! Recordings, written again with what a replay of them came to.
 #![tactic(auto)]
 
-ghost use Rattle.std.specs.Prelude.{◌≡◌, codes, option_map, map, slice_get, string_bytes, IfOk};
+ghost use Rattle.std.specs.Prelude.{◌≡◌, codes, option_map, map, string_bytes, IfOk};
 ghost use Rattle.serde_json.specs.Data.{string};
 ghost use Rattle.serde_json.specs.View.{view, items_view};
 ghost use Rattle.mls_cli_json.specs.Json.{number_at};
-ghost use Rattle.mls_cli_record.specs.Record.{IsTextOf, expecting, expecting_each, has_version, record_of, text_items, with_lines, with_member, with_replies};
+ghost use Rattle.mls_cli_record.specs.Record.{IsTextOf, expecting, expecting_each, has_version, record_of, reply_at, text_items, with_lines, with_member, with_replies};
 
 use mls_cli_json::{items_at, u64_at};
 use serde_json::{Value, put};
@@ -26,7 +26,7 @@ fn put_member(alloc: Global, value: Value, key: &str, member: Value) -> Result<V
 
 /// The reply of that number, if there is one.
 fn reply_at(replies: &[String], number: usize) -> Option<&str>
-    ensures { option_map (λ t. t.now) result ≡ option_map string_bytes (slice_get replies.now number) }
+    ensures { option_map (λ t. t.now) result ≡ reply_at replies.now number }
 {
     match replies.get(number) {
         Some(reply) => Some(reply.as_str()),

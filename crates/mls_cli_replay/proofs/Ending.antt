@@ -1,5 +1,5 @@
 -- The lines of members, compared with those that are expected, one by one.
-use Rattle.std.proofs.Common.{◌≡◌, ◌∙◌, ◌<◌, ◌≤◌, ◌+◌, ◌-◌, ◌==◌, ◌++◌, ℕ, zero, suc, List, [], ◌∷◌, Bool, true, false, Option, Some, None, option_map, option_to_list, map, max, length, slice_get, string_bytes, Result, Ok, Err, refl, ap, sym, subst, arith, append_assoc, append-nil, add-one, ne_eqb}
+use Rattle.std.proofs.Common.{◌≡◌, ◌∙◌, ◌<◌, ◌≤◌, ◌+◌, ◌-◌, ◌==◌, ◌++◌, ℕ, zero, suc, List, [], ◌∷◌, Bool, Option, Some, None, option_map, option_to_list, map, max, length, slice_get, string_bytes, Result, Ok, Err, refl, ap, sym, arith, append_assoc, append-nil, ne_eqb}
 use Rattle.std.proofs.lemmas.Grind.{flat_map-append}
 use Rattle.std.proofs.lemmas.List.{map-append}
 use Rattle.std.proofs.lemmas.List.Folds.{flat_map-map}
@@ -11,7 +11,7 @@ use Rattle.std.specs.declared.string.String.{String}
 use Rattle.mls_model.specs.Member.{Member}
 use Rattle.mls_model.specs.World.{Seat}
 use Rattle.mls_cli_recording.specs.Calls.{texts_view}
-use Rattle.mls_cli_replay.specs.Replay.{ReplayEntry, closing_entries, closing_text, difference, differences, entry_of, entry_text, entry_words, final_entries, is_silent, line_at, member_entries, member_entry, members_text, missing, texts_of}
+use Rattle.mls_cli_replay.specs.Replay.{ReplayEntry, closing_text, difference, differences, entry_of, entry_text, entry_words, final_entries, is_silent, line_at, member_entries, member_entry, members_text, missing, texts_of}
 use Rattle.mls_cli_replay.specs.declared.line.ReplayLine.{ReplayLine}
 use Rattle.mls_cli_replay.proofs.Playing.{entry_nonempty}
 

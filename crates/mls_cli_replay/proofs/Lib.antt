@@ -6,6 +6,8 @@ mod Ending
 mod Pages
 mod Closing
 mod Stopping
+mod Reporting
+pub mod ReportLaws
 mod Messages
 mod FoundMessages
 mod Quietly

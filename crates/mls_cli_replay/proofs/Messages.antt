@@ -1,5 +1,5 @@
 -- The text of a message of a file.
-use Rattle.std.proofs.Common.{◌≡◌, ◌≢◌, ◌∙◌, ℕ, List, Option, Result, Ok, Err, inl, inr, map, option_map, arith, refl, ap, sym, subst}
+use Rattle.std.proofs.Common.{◌≡◌, ◌≢◌, ◌∙◌, ℕ, List, Option, Result, Ok, Err, inl, inr, map, arith, refl, ap, sym, subst}
 use Rattle.mls_suite.specs.Crypto.{Crypto}
 use Rattle.mls_model.specs.World.{World, empty_world}
 use Rattle.std.specs.Prelude.{slice_get}

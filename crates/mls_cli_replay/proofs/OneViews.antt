@@ -1,5 +1,5 @@
 -- Actions that stand for the same calls have one quiet page, and leave one tree.
-use Rattle.std.proofs.Common.{◌≡◌, ◌∙◌, ◌&&◌, ℕ, true, false, List, ◌++◌, Option, None, Some, Result, Ok, Err, map, inl, inr, refl, ap, sym, subst}
+use Rattle.std.proofs.Common.{◌≡◌, ◌∙◌, ◌&&◌, ℕ, List, ◌++◌, Option, None, Some, Result, Ok, Err, map, inl, inr, refl, ap, sym, subst}
 use Rattle.mls_suite.specs.Crypto.{Crypto}
 use Rattle.mls_model.specs.Member.{Member}
 use Rattle.mls_model.specs.World.{World, empty_world}

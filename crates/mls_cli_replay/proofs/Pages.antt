@@ -4,7 +4,7 @@ use Rattle.mls_suite.specs.Crypto.{Crypto}
 use Rattle.mls_model.specs.declared.event.Reply.{Reply}
 use Rattle.mls_model.specs.declared.event.Source.{Source}
 use Rattle.mls_model.specs.World.{World, empty_world}
-use Rattle.mls_model.specs.Run.{replies, step}
+use Rattle.mls_model.specs.Run.{replies}
 use Rattle.mls_world_plain.specs.ActiveMembers.{active}
 use Rattle.mls_cli_text.specs.Page.{Page, printout}
 use Rattle.mls_cli_recording.specs.Calls.{Call, MessageSource, Recording, RecordedAction, action_view, call_view, recorded_view, recording_view, source_view}

@@ -4,7 +4,7 @@ use Rattle.std.proofs.lemmas.Grind.{flat_map-append}
 use Rattle.std.specs.List.{flat_map}
 use Rattle.mls_suite.specs.Crypto.{Crypto}
 use Rattle.mls_model.specs.World.{World, empty_world}
-use Rattle.mls_cli_text.specs.Page.{ending_status, ending_text, printout}
+use Rattle.mls_cli_text.specs.Page.{ending_status, printout}
 use Rattle.mls_cli_recording.specs.declared.reading.Recorded.{Recorded}
 use Rattle.mls_cli_replay.specs.Actions.{outcome_in, outcomes, run_all, world_after}
 use Rattle.mls_cli_replay.specs.Quiet.{quiet_action, quiet_actions, quiet_entries, quiet_page}

@@ -11,6 +11,7 @@ use Rattle.mls_model.specs.World.{World}
 use Rattle.mls_cli_text.specs.InputOutput.{AppendsPart}
 use Rattle.mls_cli_recording.specs.declared.reading.Recorded.{Recorded}
 use Rattle.mls_cli_replay.specs.Actions.{events_in, run_all, world_after}
+use Rattle.mls_cli_replay.specs.Progress.{ReportsFirst}
 use Rattle.mls_cli_replay.specs.Replay.{StopsAt, StopsWithin, actions_of}
 use Rattle.mls_cli_replay.proofs.Playing.{said, said_first, said_none, said_of, run_first, run_none}
 
@@ -67,9 +68,10 @@ reached_next c w all old new now i v u r lt is p grew stepped = record {
   world = stepped ∙ ap (λ (x : World). (world_after c x r.action)) p.world ∙ sym (run_more c w (take i all) r) ∙ ap (λ (rs : List Recorded). run_all c w (actions_of rs)) (sym (take_next all i r lt is));
 }
 
-pub stops : (c : Crypto) (w : World) (all : List Recorded) (old new now : Option (List ℕ)) (i : ℕ) (v u : World) (r : Recorded)
-    → i < length all → r ≡ get_or all i r → Reached c w all old new i v → AppendsPart new now (said_of c v i r) → StopsWithin c v u (events_in v r.action) new now → StopsAt c w all old now u
-stops c w all old new now i v u r lt is p part stopped = record {
+pub stops : {P : Type 0} (reports : P → P → ℕ → ℕ → Type 0) (c : Crypto) (w : World) (all : List Recorded) (old new now : Option (List ℕ)) (begun told : P) (i : ℕ) (v u : World) (r : Recorded)
+    → i < length all → r ≡ get_or all i r → Reached c w all old new i v → ReportsFirst reports (length all) i begun told → AppendsPart new now (said_of c v i r)
+    → StopsWithin c v u (events_in v r.action) new now → StopsAt reports c w all old now begun told u
+stops reports c w all old new now begun told i v u r lt is p first part stopped = record {
   count = i;
   one = r;
   is = slice_get_read all (length all) i r refl lt is;
@@ -77,6 +79,7 @@ stops c w all old new now i v u r lt is p part stopped = record {
   before = p.world;
   between = new;
   said = p.grown;
+  reported = first;
   part = part;
   world = stopped;
 }

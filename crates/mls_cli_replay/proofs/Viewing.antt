@@ -1,5 +1,5 @@
 -- What is printed of a file, by what is printed of what was read of it.
-use Rattle.std.proofs.Common.{◌≡◌, ◌≢◌, ◌∙◌, ℕ, List, ◌∷◌, [], Option, Some, Result, Ok, Err, IsErr, true, false, inl, inr, arith, refl, ap, sym, subst}
+use Rattle.std.proofs.Common.{◌≡◌, ◌≢◌, ◌∙◌, ℕ, List, ◌∷◌, [], Option, Result, Ok, Err, IsErr, true, false, inl, inr, arith, refl, ap, sym, subst}
 use Rattle.std.proofs.KnownBytes.{Keeps-refl}
 use Rattle.std.specs.declared.alloc.AllocError.{AllocError}
 use Rattle.serde_json.specs.Data.{Data}

@@ -1,5 +1,6 @@
--- What an action of a recording does in a world: an event happens, or each active member gets a message.
-use Rattle.std.specs.Prelude.{◌≡◌, ℕ, ◌+◌, ◌<◌, ◌^◌, List, [], ◌∷◌, map, take, Result, Ok, Err}
+-- What an action of a recording does in a world: an event happens, or each active member gets a
+-- message.
+use Rattle.std.specs.Prelude.{◌≡◌, ℕ, ◌+◌, ◌<◌, ◌^◌, List, [], ◌∷◌, map, take, Result, Ok, Err, IfOk, OnOk, OnErr}
 use Rattle.mls_suite.specs.Crypto.{Crypto}
 use Rattle.mls_model.specs.declared.effect.Effect.{Effect}
 use Rattle.mls_model.specs.declared.effect.Effect.TheVariants as effect
@@ -22,6 +23,10 @@ use Rattle.mls_cli_replay.specs.declared.reply.Outcome.TheVariants as outcome
 -- these bytes, delivered to members of these numbers in order
 abbrev pub deliveries : Source → List ℕ → List Event
 deliveries source members = map (λ (k : ℕ). event.Deliver k source) members
+
+-- they are delivered to those members that are active in this world
+abbrev pub deliveries_to_all : World → Source → List Event
+deliveries_to_all w source = deliveries source (active w.seats)
 
 abbrev pub no_deliveries : Tally
 no_deliveries = record { proposed = 0; known = 0; advanced = 0; removed = 0; refused = 0 }
@@ -48,15 +53,16 @@ tally_of rs = tally_from no_deliveries rs
 
 -- ---- actions
 
--- the events that an action is: a message is delivered to those members that are active as the action begins
+-- the events that an action is: a message is delivered to those that are active as it begins
 abbrev pub events_in : World → Action → List Event
 events_in w (action.Event e) = e ∷ []
-events_in w (action.DeliverAll source) = deliveries source (active w.seats)
+events_in w (action.DeliverAll source) = deliveries_to_all w source
 
 -- what an action comes to
 abbrev pub outcome_in : Crypto → World → Action → Outcome
 outcome_in c w (action.Event e) = outcome.Reply (step c w e).0
-outcome_in c w (action.DeliverAll source) = outcome.Tally (tally_of (replies c w (deliveries source (active w.seats))))
+outcome_in c w (action.DeliverAll source) =
+    outcome.Tally (tally_of (replies c w (deliveries_to_all w source)))
 
 -- the world that it leaves
 abbrev pub world_after : Crypto → World → Action → World
@@ -75,7 +81,8 @@ outcomes c w (a ∷ rest) = outcome_in c w a ∷ outcomes c (world_after c w a) 
 -- ---- of the code
 
 -- a delivery happened, with its reply, or memory was refused and nothing did
-abbrev pub DeliversOnce : {E : Type 0} → Crypto → World → World → ℕ → Source → Result Reply E → Type 0
+abbrev pub DeliversOnce : {E : Type 0} → Crypto → World → World → ℕ → Source → Result Reply E →
+    Type 0
 DeliversOnce c old new k source (Ok r) = step c old (event.Deliver k source) ≡ (r, new)
 DeliversOnce c old new k source (Err e) = new ≡ old
 
@@ -83,6 +90,22 @@ DeliversOnce c old new k source (Err e) = new ≡ old
 pub record HasRunPart (c : Crypto) (w v : World) (events : List Event) : Type 0 where
   pub count : ℕ
   pub world : v ≡ run c w (take count events)
+
+-- Where it succeeds, all of the events have happened.
+abbrev pub RunsAll : {T E : Type 0} → Crypto → World → World → List Event → Result T E → Type 0
+RunsAll c old new events result = OnOk result (new ≡ run c old events)
+
+-- Where it fails, some of them have.
+abbrev pub RunsPart : {T E : Type 0} → Crypto → World → World → List Event → Result T E → Type 0
+RunsPart c old new events result = OnErr result (HasRunPart c old new events)
+
+-- Where it succeeds, the replies to the events are counted.
+abbrev pub Tallies : {E : Type 0} → Crypto → World → List Event → Result Tally E → Type 0
+Tallies c old events result = IfOk result (λ (t : Tally). t ≡ tally_of (replies c old events))
+
+-- Where it succeeds, all of the actions are done.
+abbrev pub DoesAll : {T E : Type 0} → Crypto → World → World → List Action → Result T E → Type 0
+DoesAll c old new actions result = OnOk result (new ≡ run_all c old actions)
 
 -- one more reply of any kind can be counted
 pub record HasRoom (t : Tally) : Type 0 where

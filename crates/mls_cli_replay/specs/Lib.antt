@@ -1,5 +1,6 @@
 pub mod Reply
 pub mod Actions
+pub mod Progress
 pub mod Replay
 pub mod ReplayLaws
 pub mod OneReplay

@@ -1,9 +1,11 @@
--- What `mls replay --message N` prints: the message that has this number when all actions are done, in hex digits.
-use Rattle.std.specs.Prelude.{◌≡◌, ℕ, List, [], ◌∷◌, ◌++◌, codes, slice_get, Option, Some, None, Result, Ok, Err}
+-- What `mls replay --message N` prints: the message that has this number when all actions are done,
+-- in hex digits.
+use Rattle.std.specs.Prelude.{◌≡◌, ℕ, List, [], ◌∷◌, ◌++◌, codes, slice_get, Option, Some, None, Result, Ok, Err, IfOk}
 use Rattle.hex.specs.Hex.{encode_lower}
 use Rattle.mls_suite.specs.Crypto.{Crypto}
 use Rattle.mls_model.specs.World.{empty_world}
-use Rattle.mls_cli_text.specs.Page.{Page, Printout, Prints, good, printout, refused}
+use Rattle.mls_cli_text.specs.Page.{Page, Printout, Prints, good, page_of, printout, refused}
+use Rattle.mls_cli_text.specs.declared.page.Page as code
 use Rattle.mls_cli_text.specs.declared.fault.Fault.{Fault}
 use Rattle.mls_cli_recording.specs.Calls.{Recording, recording_view}
 use Rattle.mls_cli_recording.specs.Recording.{recording}
@@ -11,6 +13,7 @@ use Rattle.mls_cli_recording.specs.declared.reading.Recorded.{Recorded}
 use Rattle.mls_cli_recording.specs.declared.reading.RecordedRun.{RecordedRun}
 use Rattle.mls_cli_replay.specs.Actions.{run_all}
 use Rattle.mls_cli_replay.specs.Replay.{PrintsOne, actions_of}
+use Rattle.mls_cli_replay.specs.declared.message.Digits.{Digits}
 
 -- the digits of a message, and a line feed
 abbrev pub digits_text : List ℕ → List ℕ
@@ -27,19 +30,33 @@ message_page c n rs = page_on (slice_get (run_all c empty_world (actions_of rs))
 
 -- the page of a recording: of what was read of it; or its refusal
 abbrev pub IsPageOn : Crypto → ℕ → Result Recording ℕ → Page (List ℕ) → Type 0
-IsPageOn c n (Ok parts) page = (recorded : RecordedRun) × (recording_view recorded ≡ parts) × (page ≡ message_page c n recorded.actions.items)
+IsPageOn c n (Ok parts) page =
+    (recorded : RecordedRun) × (recording_view recorded ≡ parts)
+    × (page ≡ message_page c n recorded.actions.items)
 IsPageOn c n (Err number) page = page ≡ refused number
 
 -- what is printed of message n of a file, which has to be a recording for the suite
 abbrev pub IsMessage : Crypto → ℕ → List ℕ → Printout → Type 0
-IsMessage c n file p = (page : Page (List ℕ)) × IsPageOn c n (recording c.number file) page × (p ≡ printout digits_text page)
+IsMessage c n file p =
+    (page : Page (List ℕ)) × IsPageOn c n (recording c.number file) page
+    × (p ≡ printout digits_text page)
 
 -- ---- of the code's ends
 
+-- Where there is memory for it, the page of a message, or of its refusal, is made.
+abbrev pub MakesDigits : {X : Type 0} → Option (List ℕ) → Result (code.Page Digits) X → Type 0
+MakesDigits found result =
+    IfOk result
+    (λ (p : code.Page Digits). page_of (λ (d : Digits). d.message.now) p ≡ page_on found)
+
 -- message n of the world that these actions leave is printed
-abbrev pub PrintsFound : {O : Type 0} → (O → Option (List ℕ)) → O → O → Crypto → ℕ → List Recorded → Result ℕ Fault → Type 0
-PrintsFound contents old new c n rs result = Prints (contents old) (contents new) result (printout digits_text (message_page c n rs))
+abbrev pub PrintsFound : {O : Type 0} → (O → Option (List ℕ)) → O → O → Crypto → ℕ →
+    List Recorded → Result ℕ Fault → Type 0
+PrintsFound contents old new c n rs result =
+    Prints (contents old) (contents new) result (printout digits_text (message_page c n rs))
 
 -- a message of a file is printed
-abbrev pub PrintsMessage : {O : Type 0} → (O → Option (List ℕ)) → O → O → Crypto → ℕ → List ℕ → Result ℕ Fault → Type 0
-PrintsMessage contents old new c n file result = PrintsOne (IsMessage c n file) (contents old) (contents new) result
+abbrev pub PrintsMessage : {O : Type 0} → (O → Option (List ℕ)) → O → O → Crypto → ℕ → List ℕ →
+    Result ℕ Fault → Type 0
+PrintsMessage contents old new c n file result =
+    PrintsOne (IsMessage c n file) (contents old) (contents new) result

@@ -5,4 +5,5 @@ use Rattle.mls_cli_text.specs.Page.{Printout}
 use Rattle.mls_cli_replay.specs.Message.{IsMessage}
 
 abbrev pub OneMessage : Type 0
-OneMessage = (c : Crypto) (n : ℕ) (file : List ℕ) (p q : Printout) → IsMessage c n file p → IsMessage c n file q → p ≡ q
+OneMessage = (c : Crypto) (n : ℕ) (file : List ℕ) (p q : Printout)
+    → IsMessage c n file p → IsMessage c n file q → p ≡ q

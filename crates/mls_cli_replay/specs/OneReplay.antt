@@ -5,4 +5,5 @@ use Rattle.mls_cli_text.specs.Page.{Printout}
 use Rattle.mls_cli_replay.specs.Replay.{IsReplay}
 
 abbrev pub OneReplay : Type 0
-OneReplay = (c : Crypto) (file : List ℕ) (p q : Printout) → IsReplay c file p → IsReplay c file q → p ≡ q
+OneReplay = (c : Crypto) (file : List ℕ) (p q : Printout)
+    → IsReplay c file p → IsReplay c file q → p ≡ q

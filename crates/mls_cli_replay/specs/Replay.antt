@@ -1,5 +1,6 @@
--- What `mls replay` prints of a recording: a line for what each action came to, one where another text is expected, at the end a
--- line for each member, and one for each number at which these lines aren't those that are expected.
+-- What `mls replay` prints of a recording: a line for what each action came to, one where another
+-- text is expected, at the end a line for each member, and one for each number at which these lines
+-- aren't those that are expected.
 use Rattle.std.specs.Prelude.{◌≡◌, ◌⊎◌, MatchResult, ℕ, zero, suc, ◌+◌, max, Bool, true, false, ◌&&◌, if◌then◌else◌, List, [], ◌∷◌, ◌++◌, codes, length, map, take, slice_get, Option, Some, None, option_map, option_to_list, Result, Ok, Err, IfOk, OnErr, string_bytes}
 use Rattle.std.specs.Borrow.{Bor}
 use Rattle.std.specs.Fmt.{decimal}
@@ -28,7 +29,8 @@ use Rattle.mls_cli_recording.specs.Recording.{recording}
 use Rattle.mls_cli_recording.specs.declared.actions.Action.{Action}
 use Rattle.mls_cli_recording.specs.declared.reading.Recorded.{Recorded}
 use Rattle.mls_cli_recording.specs.declared.reading.RecordedRun.{RecordedRun}
-use Rattle.mls_cli_replay.specs.Actions.{events_in, outcome_in, outcomes, run_all, world_after}
+use Rattle.mls_cli_replay.specs.Actions.{events_in, outcome_in, outcomes, run_all}
+use Rattle.mls_cli_replay.specs.Progress.{ReportsFirst}
 use Rattle.mls_cli_replay.specs.Reply.{outcome_text}
 use Rattle.mls_cli_replay.specs.declared.line.ReplayLine.{ReplayLine}
 use Rattle.mls_cli_replay.specs.declared.line.ReplayLine.TheVariants as code
@@ -45,7 +47,7 @@ pub data ReplayEntry : Type 0 where
   gone : ℕ → ReplayEntry
   -- the number of a member, its leaf and epoch, its tree hash and its epoch authenticator
   present : ℕ → ℕ → ℕ → List ℕ → List ℕ → ReplayEntry
-  -- the number of a member, and the line that is expected in place of its own, or where it isn't there
+  -- the number of a member, and the line that is expected in place of its own, or of none
   missing : ℕ → List ℕ → ReplayEntry
   -- the number of a member for which no line is expected
   not_expected : ℕ → ReplayEntry
@@ -56,9 +58,12 @@ entry_words (replied action outcome) = decimal action ++ (codes ": " ++ outcome_
 entry_words (expected action text) = decimal action ++ (codes ": expected " ++ text)
 entry_words (gone member) = codes "member " ++ (decimal member ++ codes ": gone")
 entry_words (present member leaf epoch tree authenticator) =
-    codes "member " ++ (decimal member ++ (codes ": leaf " ++ (decimal leaf ++ (codes ", epoch " ++ (decimal epoch
-    ++ (codes ", tree " ++ (or_dash encode_lower tree ++ (codes ", authenticator " ++ or_dash encode_lower authenticator))))))))
-entry_words (missing member text) = codes "final " ++ (decimal member ++ (codes ": expected " ++ text))
+    codes "member " ++ (decimal member ++ (codes ": leaf " ++ (decimal leaf
+    ++ (codes ", epoch " ++ (decimal epoch
+    ++ (codes ", tree " ++ (or_dash encode_lower tree
+    ++ (codes ", authenticator " ++ or_dash encode_lower authenticator))))))))
+entry_words (missing member text) =
+    codes "final " ++ (decimal member ++ (codes ": expected " ++ text))
 entry_words (not_expected member) = codes "final " ++ (decimal member ++ codes ": expected nothing")
 
 abbrev pub entry_text : ReplayEntry → List ℕ
@@ -82,7 +87,8 @@ expected_entries action (Some text) = expected action text ∷ []
 
 -- the text that was expected is said where it is another
 abbrev pub unmet_entries : ℕ → Outcome → Option (List ℕ) → List ReplayEntry
-unmet_entries action outcome expect = if is_met outcome expect then [] else expected_entries action expect
+unmet_entries action outcome expect =
+    if is_met outcome expect then [] else expected_entries action expect
 
 abbrev pub action_entries : ℕ → Outcome → Option (List ℕ) → List ReplayEntry
 action_entries action outcome expect = replied action outcome ∷ unmet_entries action outcome expect
@@ -90,7 +96,8 @@ action_entries action outcome expect = replied action outcome ∷ unmet_entries 
 -- ---- what is said of all actions, numbered from here on
 
 unfoldable pub outcome_entries : ℕ → List Outcome → List (Option (List ℕ)) → List ReplayEntry
-outcome_entries action (o ∷ os) (e ∷ es) = action_entries action o e ++ outcome_entries (action + 1) os es
+outcome_entries action (o ∷ os) (e ∷ es) =
+    action_entries action o e ++ outcome_entries (action + 1) os es
 outcome_entries action os es = []
 
 -- whether all texts are as expected
@@ -104,7 +111,8 @@ all_met os es = true
 abbrev pub member_entry : ℕ → Member → ReplayEntry
 member_entry k m =
     if m.gone then gone k
-    else present k m.keys.leaf m.public.context.epoch m.public.context.tree_hash (epoch_authenticator m.epoch)
+    else present k m.keys.leaf m.public.context.epoch m.public.context.tree_hash
+        (epoch_authenticator m.epoch)
 
 -- from this number on
 unfoldable pub member_entries : ℕ → List Seat → List ReplayEntry
@@ -115,7 +123,8 @@ member_entries k (s ∷ ss) = member_entry k s.member ∷ member_entries (k + 1)
 
 -- the line of the member of that number without its line feed, if there is one
 abbrev pub line_at : List Seat → ℕ → Option (List ℕ)
-line_at seats k = option_map (λ (s : Seat). entry_words (member_entry k s.member)) (slice_get seats k)
+line_at seats k =
+    option_map (λ (s : Seat). entry_words (member_entry k s.member)) (slice_get seats k)
 
 -- whether this line, if there is one, is the text
 abbrev pub is_line : Option (List ℕ) → List ℕ → Bool
@@ -131,7 +140,9 @@ difference k None None = None
 -- at so many numbers, from number k on
 unfoldable pub differences : List Seat → List (List ℕ) → ℕ → ℕ → List ReplayEntry
 differences seats texts k zero = []
-differences seats texts k (suc n) = option_to_list (difference k (line_at seats k) (slice_get texts k)) ++ differences seats texts (k + 1) n
+differences seats texts k (suc n) =
+    option_to_list (difference k (line_at seats k) (slice_get texts k))
+    ++ differences seats texts (k + 1) n
 
 -- at each number that a member or a text has; nothing where no lines are recorded
 abbrev pub final_entries : List Seat → Option (List (List ℕ)) → List ReplayEntry
@@ -186,12 +197,16 @@ page_of_run c r = played_page c r.actions.items (lines_of r)
 
 -- the page of a recording: of what was read of it; or its refusal
 abbrev pub IsPageOn : Crypto → Result Recording ℕ → Page ReplayEntry → Type 0
-IsPageOn c (Ok parts) page = (recorded : RecordedRun) × (recording_view recorded ≡ parts) × (page ≡ page_of_run c recorded)
+IsPageOn c (Ok parts) page =
+    (recorded : RecordedRun) × (recording_view recorded ≡ parts)
+    × (page ≡ page_of_run c recorded)
 IsPageOn c (Err n) page = page ≡ refused n
 
 -- what is printed for a file, which has to be a recording for the suite
 abbrev pub IsReplay : Crypto → List ℕ → Printout → Type 0
-IsReplay c file p = (page : Page ReplayEntry) × IsPageOn c (recording c.number file) page × (p ≡ printout entry_text page)
+IsReplay c file p =
+    (page : Page ReplayEntry) × IsPageOn c (recording c.number file) page
+    × (p ≡ printout entry_text page)
 
 -- the printout of a file that isn't read; there is none where memory was refused
 abbrev pub IsRefusal : JsonError → Printout → Type 0
@@ -199,28 +214,45 @@ IsRefusal error.OutOfMemory p = ⊥
 IsRefusal error.NotHex p = p ≡ printout entry_text (refused 8)
 IsRefusal error.BadJson p = p ≡ printout entry_text (refused 9)
 
--- The output grows by the text of such a printout, and the answer is its status; on a fault it grows by less than such a
--- text, or stays as it was.
-abbrev pub PrintsOne : (Printout → Type 0) → Option (List ℕ) → Option (List ℕ) → Result ℕ Fault → Type 0
+-- The output grows by the text of such a printout, and the answer is its status; on a fault it
+-- grows by less than such a text, or stays as it was.
+abbrev pub PrintsOne : (Printout → Type 0) → Option (List ℕ) → Option (List ℕ) → Result ℕ Fault →
+    Type 0
 PrintsOne Is old new r = MatchResult r
     (λ status. (p : Printout) × Is p × Appends old new p.text × (status ≡ p.status))
     (λ _. Keeps old new ⊎ ((p : Printout) × Is p × AppendsPart old new p.text))
 
--- Where an action stops at a fault: some of its events have happened and nothing is said of it, or all of them have.
-abbrev pub StopsWithin : Crypto → World → World → List Event → Option (List ℕ) → Option (List ℕ) → Type 0
-StopsWithin c w v events old new = ((count : ℕ) × (v ≡ run c w (take count events)) × (new ≡ old)) ⊎ (v ≡ run c w events)
+-- what is said of the outcomes of actions from a world on
+abbrev pub outcomes_text : Crypto → World → List Recorded → List ℕ
+outcomes_text c w rs =
+    flat_map entry_text
+    (outcome_entries 0 (outcomes c w (actions_of rs)) (expectations_of rs))
 
--- Where playing stops at a fault: all of what is said of the actions before one is out, and a part of what is said of it; none
--- behind it has begun.
-pub record StopsAt (c : Crypto) (w : World) (rs : List Recorded) (old new : Option (List ℕ)) (v : World) : Type 0 where
+-- what is said of one of them
+abbrev pub action_text : Crypto → World → ℕ → Recorded → List ℕ
+action_text c w action r =
+    flat_map entry_text (action_entries action (outcome_in c w r.action) (expectation r))
+
+-- Where an action stops at a fault: some of its events have happened and nothing is said of it, or
+-- all of them have.
+abbrev pub StopsWithin : Crypto → World → World → List Event → Option (List ℕ) →
+    Option (List ℕ) → Type 0
+StopsWithin c w v events old new =
+    ((count : ℕ) × (v ≡ run c w (take count events)) × (new ≡ old)) ⊎ (v ≡ run c w events)
+
+-- Where playing stops at a fault: all of what is said of the actions before one is out, each of
+-- them is reported, and a part of what is said of that one is out; none behind it has begun.
+pub record StopsAt {P : Type 0} (reports : P → P → ℕ → ℕ → Type 0) (c : Crypto) (w : World)
+    (rs : List Recorded) (old new : Option (List ℕ)) (told now : P) (v : World) : Type 0 where
   pub count : ℕ
   pub one : Recorded
   pub is : slice_get rs count ≡ Some one
   pub reached : World
   pub before : reached ≡ run_all c w (actions_of (take count rs))
   pub between : Option (List ℕ)
-  pub said : Appends old between (flat_map entry_text (outcome_entries 0 (outcomes c w (actions_of (take count rs))) (expectations_of (take count rs))))
-  pub part : AppendsPart between new (flat_map entry_text (action_entries count (outcome_in c reached one.action) (expectation one)))
+  pub said : Appends old between (outcomes_text c w (take count rs))
+  pub reported : ReportsFirst reports (length rs) count told now
+  pub part : AppendsPart between new (action_text c reached count one)
   pub world : StopsWithin c reached v (events_in reached one.action) between new
 
 -- ---- of the code's values
@@ -229,17 +261,34 @@ abbrev pub entry_of : ReplayLine → ReplayEntry
 entry_of (code.Outcome action outcome) = replied action outcome
 entry_of (code.Expected action text) = expected action text.now
 entry_of (code.Gone member) = gone member
-entry_of (code.Present member leaf epoch tree authenticator) = present member leaf epoch tree.now authenticator.now
+entry_of (code.Present member leaf epoch tree authenticator) =
+    present member leaf epoch tree.now authenticator.now
 entry_of (code.Missing member text) = missing member text.now
 entry_of (code.NotExpected member) = not_expected member
 
+-- a text that is borrowed, if there is one
+abbrev pub lent : Option (Bor (List ℕ)) → Option (List ℕ)
+lent text = option_map (λ (t : Bor (List ℕ)). t.now) text
+
 -- what is printed of the text that was expected
 abbrev pub expected_text : ℕ → Option (Bor (List ℕ)) → List ℕ
-expected_text action expect = flat_map entry_text (expected_entries action (option_map (λ (t : Bor (List ℕ)). t.now) expect))
+expected_text action expect = flat_map entry_text (expected_entries action (lent expect))
+
+-- Where it succeeds, a call writes it.
+abbrev pub SaysExpected : {O T E : Type 0} → (O → Option (List ℕ)) → O → O → ℕ →
+    Option (Bor (List ℕ)) → Result T E → Type 0
+SaysExpected contents old new action expect result =
+    Writes contents old new (expected_text action expect) result
+
+-- Where it fails, a call writes a beginning of it.
+abbrev pub BeginsExpected : {O T E : Type 0} → (O → Option (List ℕ)) → O → O → ℕ →
+    Option (Bor (List ℕ)) → Result T E → Type 0
+BeginsExpected contents old new action expect result =
+    WritesPart contents old new (expected_text action expect) result
 
 -- what is printed of an action
-abbrev pub told : ℕ → Outcome → Option (Bor (List ℕ)) → List ℕ
-told action outcome expect = flat_map entry_text (action_entries action outcome (option_map (λ (t : Bor (List ℕ)). t.now) expect))
+abbrev pub said_text : ℕ → Outcome → Option (Bor (List ℕ)) → List ℕ
+said_text action outcome expect = flat_map entry_text (action_entries action outcome (lent expect))
 
 -- what is printed of members
 abbrev pub members_text : List Seat → List ℕ
@@ -249,23 +298,41 @@ members_text seats = flat_map entry_text (member_entries 0 seats)
 abbrev pub texts_of : Option (Bor (List (String Global))) → Option (List (List ℕ))
 texts_of lines = option_map (λ (ts : Bor (List (String Global))). map string_bytes ts.now) lines
 
--- the same of borrowed words and a borrowed text
+-- the text of a number, if there is one
+abbrev pub text_at : List (String Global) → ℕ → Option (List ℕ)
+text_at texts k = option_map string_bytes (slice_get texts k)
+
+-- what is said where a borrowed line, if there is one, isn't the one that is expected, if one is
 abbrev pub difference_by : ℕ → Option (Bor (List ℕ)) → Option (Bor (List ℕ)) → Option ReplayEntry
-difference_by k words text = difference k (option_map (λ (t : Bor (List ℕ)). t.now) words) (option_map (λ (t : Bor (List ℕ)). t.now) text)
+difference_by k words text = difference k (lent words) (lent text)
 
 -- the line for a number, where that of the member isn't the text
-abbrev pub DiffersAt : {E : Type 0} → List Seat → List (List ℕ) → ℕ → Result (Option ReplayLine) E → Type 0
-DiffersAt seats texts k result = IfOk result (λ (line : Option ReplayLine). option_map entry_of line ≡ difference k (line_at seats k) (slice_get texts k))
+abbrev pub DiffersAt : {E : Type 0} → List Seat → List (List ℕ) → ℕ →
+    Result (Option ReplayLine) E → Type 0
+DiffersAt seats texts k result =
+    IfOk result (λ (line : Option ReplayLine). option_map entry_of line
+    ≡ difference k (line_at seats k) (slice_get texts k))
 
 -- the lines say where those of members aren't these texts
-abbrev pub SayDifferences : {E : Type 0} → List Seat → Option (List (List ℕ)) → Result (Vec ReplayLine) E → Type 0
-SayDifferences seats texts result = IfOk result (λ (v : Vec ReplayLine). map entry_of v.items ≡ final_entries seats texts)
+abbrev pub SayDifferences : {E : Type 0} → List Seat → Option (List (List ℕ)) →
+    Result (Vec ReplayLine) E → Type 0
+SayDifferences seats texts result =
+    IfOk result (λ (v : Vec ReplayLine). map entry_of v.items ≡ final_entries seats texts)
 
 -- what is printed in the end
 abbrev pub closing_text : List Seat → Option (List (List ℕ)) → List ℕ
 closing_text seats lines = flat_map entry_text (closing_entries seats lines)
 
--- Where there is memory for it, a call makes the words of a line; the first argument is what a text's bytes are.
+-- the same, where these lines are expected
+abbrev pub end_text : List Seat → Option (Bor (List (String Global))) → List ℕ
+end_text seats lines = closing_text seats (texts_of lines)
+
+-- whether the lines of members are those that are expected
+abbrev pub ends_as_expected : List Seat → Option (Bor (List (String Global))) → Bool
+ends_as_expected seats lines = is_silent (final_entries seats (texts_of lines))
+
+-- Where there is memory for it, a call makes the words of a line; first comes what a text's bytes
+-- are.
 abbrev pub HasWords : {Z E : Type 0} → (Z → List ℕ) → ReplayEntry → Result Z E → Type 0
 HasWords {Z} bytes entry result = IfOk result (λ (z : Z). bytes z ≡ entry_words entry)
 
@@ -276,16 +343,22 @@ abbrev pub meets : Crypto → World → Recorded → Bool
 meets c w r = is_met (outcome_in c w r.action) (expectation r)
 
 -- Where it succeeds, a call writes what is said of the action.
-abbrev pub Says : {O T E : Type 0} → (O → Option (List ℕ)) → O → O → Crypto → World → ℕ → Recorded → Result T E → Type 0
-Says contents old new c w action r result = Writes contents old new (flat_map entry_text (action_entries action (outcome_in c w r.action) (expectation r))) result
+abbrev pub Says : {O T E : Type 0} → (O → Option (List ℕ)) → O → O → Crypto → World → ℕ →
+    Recorded → Result T E → Type 0
+Says contents old new c w action r result =
+    Writes contents old new (action_text c w action r) result
 
 -- Where it fails, a call writes a beginning of what is said of the action.
-abbrev pub Begins : {O T E : Type 0} → (O → Option (List ℕ)) → O → O → Crypto → World → ℕ → Recorded → Result T E → Type 0
-Begins contents old new c w action r result = WritesPart contents old new (flat_map entry_text (action_entries action (outcome_in c w r.action) (expectation r))) result
+abbrev pub Begins : {O T E : Type 0} → (O → Option (List ℕ)) → O → O → Crypto → World → ℕ →
+    Recorded → Result T E → Type 0
+Begins contents old new c w action r result =
+    WritesPart contents old new (action_text c w action r) result
 
 -- Where it fails, the action stopped.
-abbrev pub Stops : {O T E : Type 0} → (O → Option (List ℕ)) → O → O → Crypto → World → World → Action → Result T E → Type 0
-Stops contents old new c w v action result = OnErr result (StopsWithin c w v (events_in w action) (contents old) (contents new))
+abbrev pub Stops : {O T E : Type 0} → (O → Option (List ℕ)) → O → O → Crypto → World → World →
+    Action → Result T E → Type 0
+Stops contents old new c w v action result =
+    OnErr result (StopsWithin c w v (events_in w action) (contents old) (contents new))
 
 -- ---- of all actions
 
@@ -293,32 +366,38 @@ Stops contents old new c w v action result = OnErr result (StopsWithin c w v (ev
 abbrev pub all_meet : Crypto → World → List Recorded → Bool
 all_meet c w rs = all_met (outcomes c w (actions_of rs)) (expectations_of rs)
 
--- what is printed of all actions
-abbrev pub outcomes_text : Crypto → World → List Recorded → List ℕ
-outcomes_text c w rs = flat_map entry_text (outcome_entries 0 (outcomes c w (actions_of rs)) (expectations_of rs))
-
 -- Where it succeeds, a call writes what is said of all actions.
-abbrev pub SaysAll : {O T E : Type 0} → (O → Option (List ℕ)) → O → O → Crypto → World → List Recorded → Result T E → Type 0
+abbrev pub SaysAll : {O T E : Type 0} → (O → Option (List ℕ)) → O → O → Crypto → World →
+    List Recorded → Result T E → Type 0
 SaysAll contents old new c w rs result = Writes contents old new (outcomes_text c w rs) result
 
 -- Where it fails, a call writes a beginning of what is said of all actions.
-abbrev pub BeginsAll : {O T E : Type 0} → (O → Option (List ℕ)) → O → O → Crypto → World → List Recorded → Result T E → Type 0
+abbrev pub BeginsAll : {O T E : Type 0} → (O → Option (List ℕ)) → O → O → Crypto → World →
+    List Recorded → Result T E → Type 0
 BeginsAll contents old new c w rs result = WritesPart contents old new (outcomes_text c w rs) result
 
 -- Where it fails, a call ends at an action.
-abbrev pub Ends : {O T E : Type 0} → (O → Option (List ℕ)) → O → O → Crypto → World → World → List Recorded → Result T E → Type 0
-Ends contents old new c w v rs result = OnErr result (StopsAt c w rs (contents old) (contents new) v)
+abbrev pub Ends : {O P T E : Type 0} → (O → Option (List ℕ)) → O → O →
+    (P → P → ℕ → ℕ → Type 0) → P → P → Crypto → World → World → List Recorded → Result T E → Type 0
+Ends contents old new reports told now c w v rs result =
+    OnErr result (StopsAt reports c w rs (contents old) (contents new) told now v)
 
 -- ---- of a recording
 
 -- the page of what was read is printed
-abbrev pub PrintsPlay : {O : Type 0} → (O → Option (List ℕ)) → O → O → Crypto → RecordedRun → Result ℕ Fault → Type 0
-PrintsPlay contents old new c r result = Prints (contents old) (contents new) result (printout entry_text (page_of_run c r))
+abbrev pub PrintsPlay : {O : Type 0} → (O → Option (List ℕ)) → O → O → Crypto → RecordedRun →
+    Result ℕ Fault → Type 0
+PrintsPlay contents old new c r result =
+    Prints (contents old) (contents new) result (printout entry_text (page_of_run c r))
 
 -- the page of a refusal is printed
-abbrev pub PrintsRefusal : {O : Type 0} → (O → Option (List ℕ)) → O → O → ℕ → Result ℕ Fault → Type 0
-PrintsRefusal contents old new number result = Prints (contents old) (contents new) result (printout entry_text (refused number))
+abbrev pub PrintsRefusal : {O : Type 0} → (O → Option (List ℕ)) → O → O → ℕ → Result ℕ Fault →
+    Type 0
+PrintsRefusal contents old new number result =
+    Prints (contents old) (contents new) result (printout entry_text (refused number))
 
 -- a replay of a file is printed
-abbrev pub PrintsReplay : {O : Type 0} → (O → Option (List ℕ)) → O → O → Crypto → List ℕ → Result ℕ Fault → Type 0
-PrintsReplay contents old new c file result = PrintsOne (IsReplay c file) (contents old) (contents new) result
+abbrev pub PrintsReplay : {O : Type 0} → (O → Option (List ℕ)) → O → O → Crypto → List ℕ →
+    Result ℕ Fault → Type 0
+PrintsReplay contents old new c file result =
+    PrintsOne (IsReplay c file) (contents old) (contents new) result

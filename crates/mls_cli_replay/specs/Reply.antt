@@ -23,21 +23,25 @@ refused_text number name = codes "refused " ++ (decimal number ++ (codes " " ++ 
 
 -- the text of a reply; a refusal has its number and its name
 abbrev pub reply_text : Reply → List ℕ
-reply_text (reply.Candidate candidate message) = codes "candidate " ++ (decimal candidate ++ (codes ", message " ++ decimal message))
+reply_text (reply.Candidate candidate message) =
+    codes "candidate " ++ (decimal candidate ++ (codes ", message " ++ decimal message))
 reply_text (reply.Created member) = codes "member " ++ decimal member
 reply_text (reply.Proposal message) = codes "message " ++ decimal message
 reply_text (reply.Commit message None) = codes "message " ++ decimal message
-reply_text (reply.Commit message (Some welcome)) = codes "message " ++ (decimal message ++ (codes ", welcome " ++ decimal welcome))
+reply_text (reply.Commit message (Some welcome)) =
+    codes "message " ++ (decimal message ++ (codes ", welcome " ++ decimal welcome))
 reply_text (reply.Dropped true) = codes "dropped"
 reply_text (reply.Dropped false) = codes "nothing pending"
 reply_text (reply.Delivered done) = effect_text done
-reply_text (reply.Joined member epoch) = codes "member " ++ (decimal member ++ (codes " at epoch " ++ decimal epoch))
+reply_text (reply.Joined member epoch) =
+    codes "member " ++ (decimal member ++ (codes " at epoch " ++ decimal epoch))
 reply_text (reply.Refused number) = refused_text number (refusal_name number)
 
 -- how many deliveries had each kind of reply
 abbrev pub tally_text : Tally → List ℕ
 tally_text t =
-    codes "proposed " ++ (decimal t.proposed ++ (codes ", known " ++ (decimal t.known ++ (codes ", advanced " ++ (decimal t.advanced
+    codes "proposed " ++ (decimal t.proposed ++ (codes ", known " ++ (decimal t.known
+    ++ (codes ", advanced " ++ (decimal t.advanced
     ++ (codes ", removed " ++ (decimal t.removed ++ (codes ", refused " ++ decimal t.refused))))))))
 
 -- the text of what an action came to

@@ -1,12 +1,14 @@
 //! Actions, done and printed one by one.
 
-ghost use Rattle.std.specs.Prelude.{◌≡◌, ◌≢◌, IfOk, IfErr, OnOk, OnErr, option_map};
+ghost use Rattle.std.specs.Prelude.{◌≡◌, ◌≢◌, length, IfOk, IfErr, OnOk, option_map};
 ghost use Rattle.mls_cli_text.specs.InputOutput.{write_failed, Writes, WritesPart};
-ghost use Rattle.mls_cli_replay.specs.Actions.{events_in, outcome_in, run_all, world_after, HasRunPart};
-ghost use Rattle.mls_cli_replay.specs.Replay.{Begins, BeginsAll, Ends, Says, SaysAll, Stops, actions_of, all_meet, told, expected_text, is_met, meets};
+ghost use Rattle.mls_cli_replay.specs.Actions.{events_in, outcome_in, world_after, DoesAll, RunsPart};
+ghost use Rattle.mls_cli_replay.specs.Progress.{Reports};
+ghost use Rattle.mls_cli_replay.specs.Replay.{Begins, BeginsAll, BeginsExpected, Ends, Says, SaysAll, SaysExpected, Stops, actions_of, all_meet, said_text, is_met, meets};
 
 use crate::deliveries::deliver_to_all;
 use crate::line::ReplayLine;
+use crate::progress::Progress;
 use crate::reply::{Outcome, outcome_text};
 use mls_cli_recording::{Action, Recorded};
 use mls_cli_text::{Fault, Output, print};
@@ -34,8 +36,8 @@ fn print_expected<O: Output>(
     expect: Option<&str>,
     out: &mut O,
 ) -> Result<(), Fault>
-    ensures whole { Writes O.contents out.old out.new (expected_text action expect.entry) result }
-    ensures part { WritesPart O.contents out.old out.new (expected_text action expect.entry) result }
+    ensures whole { SaysExpected O.contents out.old out.new action expect.entry result }
+    ensures part { BeginsExpected O.contents out.old out.new action expect.entry result }
     ensures fault { O.failed out.new ≡ write_failed (O.failed out.old) result }
     ensures written { IfErr result (λ e. e ≢ Fault.Read) }
 {
@@ -54,8 +56,10 @@ fn print_outcome<O: Output>(
     out: &mut O,
 ) -> Result<bool, Fault>
     ensures met { IfOk result (λ met. met ≡ is_met outcome (option_map (λ t. t.now) expect.entry)) }
-    ensures whole { Writes O.contents out.old out.new (told action outcome expect.entry) result }
-    ensures part { WritesPart O.contents out.old out.new (told action outcome expect.entry) result }
+    ensures whole { Writes O.contents out.old out.new
+        (said_text action outcome expect.entry) result }
+    ensures part { WritesPart O.contents out.old out.new
+        (said_text action outcome expect.entry) result }
     ensures fault { O.failed out.new ≡ write_failed (O.failed out.old) result }
     ensures written { IfErr result (λ e. e ≢ Fault.Read) }
 {
@@ -76,7 +80,7 @@ pub fn do_action<S: Suite>(
 ) -> Result<Outcome, OutOfMemory>
     ensures world { OnOk result (world.new ≡ world_after S.crypto world.old action.now) }
     ensures outcome { IfOk result (λ o. o ≡ outcome_in S.crypto world.old action.now) }
-    ensures part { OnErr result (HasRunPart S.crypto world.old world.new (events_in world.old action.now)) }
+    ensures part { RunsPart S.crypto world.old world.new (events_in world.old action.now) result }
 {
     match action {
         Action::Event(event) => {
@@ -103,7 +107,8 @@ fn play_action<S: Suite, O: Output>(
     ensures whole { Says O.contents out.old out.new S.crypto world.old action recorded.now result }
     ensures part { Begins O.contents out.old out.new S.crypto world.old action recorded.now result }
     // At a fault some of its events have happened and nothing is said, or all of them have.
-    ensures stopped { Stops O.contents out.old out.new S.crypto world.old world.new recorded.now.action result }
+    ensures stopped { Stops O.contents out.old out.new S.crypto world.old world.new
+        recorded.now.action result }
     ensures fault { O.failed out.new ≡ write_failed (O.failed out.old) result }
     ensures written { IfErr result (λ e. e ≢ Fault.Read) }
 {
@@ -111,26 +116,31 @@ fn play_action<S: Suite, O: Output>(
     print_outcome(alloc, action, outcome, recorded.expect.as_deref(), out)
 }
 
-/// Does the actions, and prints what is said of each before the next one begins; it answers whether all texts are as
-/// expected.
-pub fn play_actions<S: Suite, O: Output>(
+/// Does the actions, and prints what is said of each and reports it as done before the next one begins; it answers
+/// whether all texts are as expected.
+pub fn play_actions<S: Suite, O: Output, P: Progress>(
     alloc: Global,
     world: &mut World<S>,
     recorded: &[Recorded],
     out: &mut O,
+    progress: &mut P,
 ) -> Result<bool, Fault>
-    ensures world { OnOk result (world.new ≡ run_all S.crypto world.old (actions_of recorded.now)) }
+    ensures world { DoesAll S.crypto world.old world.new (actions_of recorded.now) result }
     ensures met { IfOk result (λ met. met ≡ all_meet S.crypto world.old recorded.now) }
     ensures whole { SaysAll O.contents out.old out.new S.crypto world.old recorded.now result }
     ensures part { BeginsAll O.contents out.old out.new S.crypto world.old recorded.now result }
-    // At a fault all actions before one are said, a part of that one is, and none behind it has begun.
-    ensures cut { Ends O.contents out.old out.new S.crypto world.old world.new recorded.now result }
+    // At a fault all actions before one are said and reported, a part of that one is said, and none
+    // behind it has begun.
+    ensures cut { Ends O.contents out.old out.new P.reports progress.old progress.new S.crypto
+        world.old world.new recorded.now result }
+    ensures reports { Reports P.reports (length recorded.now) progress.old progress.new result }
     ensures fault { O.failed out.new ≡ write_failed (O.failed out.old) result }
     ensures written { IfErr result (λ e. e ≢ Fault.Read) }
 {
     let mut all_met = true;
     for (action, one) in recorded.iter().enumerate() {
         let met = play_action(alloc, world, action, one, out)?;
+        progress.report(action + 1, recorded.len());
         all_met = all_met && met;
     }
     Ok(all_met)

@@ -1,9 +1,7 @@
 //! A message, delivered to each active member.
 
-ghost use Rattle.std.specs.Prelude.{◌≡◌, IfOk, OnOk, OnErr};
-ghost use Rattle.mls_model.specs.Run.{replies, run};
-ghost use Rattle.mls_world_plain.specs.ActiveMembers.{active};
-ghost use Rattle.mls_cli_replay.specs.Actions.{counted, counted_effect, deliveries, no_deliveries, tally_of, DeliversOnce, HasRoom, HasRunPart};
+ghost use Rattle.std.specs.Prelude.{◌≡◌};
+ghost use Rattle.mls_cli_replay.specs.Actions.{counted, counted_effect, deliveries, deliveries_to_all, no_deliveries, DeliversOnce, HasRoom, RunsAll, RunsPart, Tallies};
 
 use mls_model::{Effect, Reply, Source};
 use mls_suite::{OutOfMemory, Suite};
@@ -104,9 +102,11 @@ fn deliver_to<S: Suite>(
     members: &[usize],
     source: &Source,
 ) -> Result<Tally, OutOfMemory>
-    ensures world { OnOk result (world.new ≡ run S.crypto world.old (deliveries source.now members.now)) }
-    ensures tally { IfOk result (λ t. t ≡ tally_of (replies S.crypto world.old (deliveries source.now members.now))) }
-    ensures part { OnErr result (HasRunPart S.crypto world.old world.new (deliveries source.now members.now)) }
+    ensures world { RunsAll S.crypto world.old world.new
+        (deliveries source.now members.now) result }
+    ensures tally { Tallies S.crypto world.old (deliveries source.now members.now) result }
+    ensures part { RunsPart S.crypto world.old world.new
+        (deliveries source.now members.now) result }
 {
     let mut tally = no_deliveries();
     for member in members {
@@ -123,9 +123,11 @@ pub fn deliver_to_all<S: Suite>(
     world: &mut World<S>,
     source: &Source,
 ) -> Result<Tally, OutOfMemory>
-    ensures world { OnOk result (world.new ≡ run S.crypto world.old (deliveries source.now (active world.old.seats))) }
-    ensures tally { IfOk result (λ t. t ≡ tally_of (replies S.crypto world.old (deliveries source.now (active world.old.seats)))) }
-    ensures part { OnErr result (HasRunPart S.crypto world.old world.new (deliveries source.now (active world.old.seats))) }
+    ensures world { RunsAll S.crypto world.old world.new
+        (deliveries_to_all world.old source.now) result }
+    ensures tally { Tallies S.crypto world.old (deliveries_to_all world.old source.now) result }
+    ensures part { RunsPart S.crypto world.old world.new
+        (deliveries_to_all world.old source.now) result }
 {
     let members: Vec<usize> = world.active().collect(alloc)?;
     deliver_to(world, members.as_slice(), source)

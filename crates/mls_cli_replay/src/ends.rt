@@ -1,8 +1,8 @@
 //! What is printed in the end: a line for each member, and where these lines aren't those that are expected.
 
-ghost use Rattle.std.specs.Prelude.{◌≡◌, ◌≢◌, ◌<◌, ◌++◌, length, map, max, slice_get, IfOk, IfErr, OnOk, Some, option_map, option_to_list, string_bytes};
+ghost use Rattle.std.specs.Prelude.{◌≡◌, ◌≢◌, ◌<◌, ◌++◌, length, map, max, IfOk, IfErr, OnOk, Some, option_map, option_to_list, string_bytes};
 ghost use Rattle.mls_cli_text.specs.InputOutput.{write_failed, Writes, WritesPart};
-ghost use Rattle.mls_cli_replay.specs.Replay.{closing_text, difference_by, entry_of, final_entries, is_line, is_silent, line_at, texts_of, DiffersAt, SayDifferences};
+ghost use Rattle.mls_cli_replay.specs.Replay.{difference_by, end_text, ends_as_expected, entry_of, is_line, line_at, text_at, texts_of, DiffersAt, SayDifferences};
 
 use crate::line::{ReplayLine, line_words};
 use crate::members::{member_line, print_members};
@@ -17,7 +17,7 @@ fn words_at<S: Suite>(
     world: &World<S>,
     number: usize,
 ) -> Result<Option<String>, AllocError>
-    ensures { IfOk result (λ words. option_map string_bytes words ≡ line_at world.now.seats number) }
+    ensures { IfOk result (λ w. option_map string_bytes w ≡ line_at world.now.seats number) }
 {
     match world.member(number) {
         Some(member) => {
@@ -66,7 +66,7 @@ fn difference_line<'a>(
 
 /// The text of that number, if there is one.
 fn text_at(texts: &[String], number: usize) -> Option<&str>
-    ensures { option_map (λ t. t.now) result ≡ option_map string_bytes (slice_get texts.now number) }
+    ensures { option_map (λ t. t.now) result ≡ text_at texts.now number }
 {
     match texts.get(number) {
         Some(text) => Some(text.as_str()),
@@ -140,7 +140,7 @@ fn differences<'a, S: Suite>(
     texts: Option<&'a [String]>,
 ) -> Result<Vec<ReplayLine<'a>>, AllocError>
     ensures lines { SayDifferences world.now.seats (texts_of texts.entry) result }
-    ensures some { IfErr result (λ _. 0 < length (closing_text world.now.seats (texts_of texts.entry))) }
+    ensures some { IfErr result (λ _. 0 < length (end_text world.now.seats texts.entry)) }
 {
     match texts {
         Some(texts) => differences_of(alloc, world, texts),
@@ -156,9 +156,11 @@ pub fn print_end<S: Suite, O: Output>(
     texts: Option<&[String]>,
     out: &mut O,
 ) -> Result<bool, Fault>
-    ensures met { IfOk result (λ met. met ≡ is_silent (final_entries world.now.seats (texts_of texts.entry))) }
-    ensures whole { Writes O.contents out.old out.new (closing_text world.now.seats (texts_of texts.entry)) result }
-    ensures part { WritesPart O.contents out.old out.new (closing_text world.now.seats (texts_of texts.entry)) result }
+    ensures met { IfOk result (λ met. met ≡ ends_as_expected world.now.seats texts.entry) }
+    ensures whole { Writes O.contents out.old out.new
+        (end_text world.now.seats texts.entry) result }
+    ensures part { WritesPart O.contents out.old out.new
+        (end_text world.now.seats texts.entry) result }
     ensures fault { O.failed out.new ≡ write_failed (O.failed out.old) result }
     ensures written { IfErr result (λ e. e ≢ Fault.Read) }
 {

@@ -8,6 +8,7 @@ mod line;
 mod member_tree;
 mod members;
 mod message;
+mod progress;
 mod quiet;
 mod record;
 mod reply;
@@ -24,8 +25,9 @@ ghost use Rattle.mls_cli_replay.specs.Message.{PrintsMessage};
 ghost use Rattle.mls_cli_replay.specs.OneMessage.{OneMessage};
 ghost use Rattle.mls_cli_replay.specs.OneReplay.{OneReplay};
 ghost use Rattle.mls_cli_replay.specs.OneView.{OneQuiet, OneTree};
-ghost use Rattle.mls_cli_replay.specs.RecordedReplies.{IsRecord};
-ghost use Rattle.mls_cli_replay.specs.Views.{IsMemberTree, IsQuiet, IsRecorded, IsView};
+ghost use Rattle.mls_cli_replay.specs.Progress.{ReportsFile, ReportsRun};
+ghost use Rattle.mls_cli_replay.specs.RecordedReplies.{PrintsRecord};
+ghost use Rattle.mls_cli_replay.specs.Views.{PrintsMemberTree, PrintsRecorded, PrintsUnmet, PrintsView};
 ghost use Rattle.mls_cli_replay.specs.Replay.{IsRefusal, PrintsOne, PrintsPlay, PrintsRefusal, PrintsReplay, ending_by};
 
 use actions::play_actions;
@@ -39,6 +41,7 @@ use mls_cli_recording::{RecordedRun, laws_of_calls, recording};
 use mls_cli_text::{Fault, Output, Page, print_page, refused_page};
 use mls_suite::Suite;
 use mls_world::World;
+pub use progress::{Progress, Silent};
 use quiet::play_quietly;
 use record::print_record;
 pub use reply::Outcome;
@@ -53,21 +56,23 @@ fn status_of(met: bool, same: bool) -> u8
     if met && same { 0 } else { 1 }
 }
 
-/// Does the actions in a new world, prints the lines of each before the next one begins, and in the end a line for each
-/// member and where these lines aren't those that are expected. It answers the exit status: 1 where a text or a line
-/// isn't as expected, else 0.
-fn play<S: Suite, O: Output>(
+/// Does the actions in a new world, prints the lines of each and reports it as done before the next one begins, and
+/// prints in the end a line for each member and where these lines aren't those that are expected. It answers the exit
+/// status: 1 where a text or a line isn't as expected, else 0.
+fn play<S: Suite, O: Output, P: Progress>(
     alloc: Global,
     recorded: &RecordedRun,
     out: &mut O,
+    progress: &mut P,
 ) -> Result<u8, Fault>
     ensures prints { PrintsPlay O.contents out.old out.new S.crypto recorded.now result }
     ensures status { IfOk result (λ status. status ≤ 1) }
     ensures fault { O.failed out.new ≡ write_failed (O.failed out.old) result }
     ensures written { IfErr result (λ e. e ≢ Fault.Read) }
+    ensures reports { ReportsRun P.reports recorded.now progress.old progress.new result }
 {
     let mut world = World::<S>::new(alloc);
-    let met = play_actions(alloc, &mut world, recorded.actions.as_slice(), out)?;
+    let met = play_actions(alloc, &mut world, recorded.actions.as_slice(), out, progress)?;
     let texts = recorded.final_lines.as_deref();
     let same = print_end(alloc, &world, texts, out)?;
     Ok(status_of(met, same))
@@ -105,9 +110,9 @@ fn recording_for<S: Suite>(alloc: Global, file: &[u8]) -> Result<RecordedRun, Js
     recording(alloc, S::NUMBER, file)
 }
 
-/// Prints the replay of a recording for the suite, or the refusal of the file (`BadJson` (9), `NotHex` (8)), and answers the exit
-/// status. The whole file is read before the first action begins, and each action's lines are printed before the next one
-/// begins, so that after a failed write no further one does.
+/// Prints the replay of a recording for the suite, or the refusal of the file (`BadJson` (9), `NotHex` (8)), and answers
+/// the exit status. The whole file is read before the first action begins, and each action's lines are printed before
+/// the next one begins, so that after a failed write no further one does.
 pub fn replay<S: Suite, O: Output>(alloc: Global, file: &[u8], out: &mut O) -> Result<u8, Fault>
     // The output grows by the replay's text, or on a fault by less than that.
     ensures prints { PrintsReplay O.contents out.old out.new S.crypto file.now result }
@@ -116,20 +121,37 @@ pub fn replay<S: Suite, O: Output>(alloc: Global, file: &[u8], out: &mut O) -> R
     ensures fault { O.failed out.new ≡ write_failed (O.failed out.old) result }
     ensures written { IfErr result (λ e. e ≢ Fault.Read) }
 {
+    print_replay::<S, O, Silent>(alloc, file, out, &mut Silent)
+}
+
+/// Prints the replay of a recording as `replay` does, and reports each action as done.
+fn print_replay<S: Suite, O: Output, P: Progress>(
+    alloc: Global,
+    file: &[u8],
+    out: &mut O,
+    progress: &mut P,
+) -> Result<u8, Fault>
+    ensures prints { PrintsReplay O.contents out.old out.new S.crypto file.now result }
+    ensures status { IfOk result (λ status. status ≤ 1) }
+    ensures fault { O.failed out.new ≡ write_failed (O.failed out.old) result }
+    ensures written { IfErr result (λ e. e ≢ Fault.Read) }
+    ensures reports { ReportsFile P.reports S.crypto file.now progress.old progress.new result }
+{
     match recording_for::<S>(alloc, file) {
-        Ok(recorded) => play::<S, O>(alloc, &recorded, out),
+        Ok(recorded) => play::<S, O, P>(alloc, &recorded, out, progress),
         Err(error) => print_error(alloc, error, out),
     }
 }
 
 /// Prints the message that has this number when all actions of a recording for the suite are done, in hex digits, and
 /// answers the exit status; or the refusal of the file (`BadJson` (9), `NotHex` (8)), or that there is no such message
-/// (`NoSuchMessage` (94)). Nothing is compared with what is expected.
-pub fn replay_message<S: Suite, O: Output>(
+/// (`NoSuchMessage` (94)). Nothing is compared with what is expected. Each action is reported as done.
+pub fn replay_message<S: Suite, O: Output, P: Progress>(
     alloc: Global,
     file: &[u8],
     number: usize,
     out: &mut O,
+    progress: &mut P,
 ) -> Result<u8, Fault>
     // The output grows by the message's text, or on a fault by less than that.
     ensures prints { PrintsMessage O.contents out.old out.new S.crypto number file.now result }
@@ -137,28 +159,33 @@ pub fn replay_message<S: Suite, O: Output>(
     // A fault of the output comes just where a write fails.
     ensures fault { O.failed out.new ≡ write_failed (O.failed out.old) result }
     ensures written { IfErr result (λ e. e ≢ Fault.Read) }
+    ensures reports { ReportsFile P.reports S.crypto file.now progress.old progress.new result }
 {
     match recording_for::<S>(alloc, file) {
-        Ok(recorded) => print_message::<S, O>(alloc, recorded.actions.as_slice(), number, out),
+        Ok(recorded) => {
+            print_message::<S, O, P>(alloc, recorded.actions.as_slice(), number, out, progress)
+        }
         Err(error) => print_error(alloc, error, out),
     }
 }
 
 /// Prints what of the replay of a recording for the suite isn't as expected: each action whose text is another, then
 /// all that the replay ends with; or the refusal of the file (`BadJson` (9), `NotHex` (8)). It answers the exit status,
-/// which is that of the replay. All actions are done before anything is printed.
-pub fn replay_quietly<S: Suite, O: Output>(
+/// which is that of the replay. All actions are done, and each is reported, before anything is printed.
+pub fn replay_quietly<S: Suite, O: Output, P: Progress>(
     alloc: Global,
     file: &[u8],
     out: &mut O,
+    progress: &mut P,
 ) -> Result<u8, Fault>
-    ensures prints { PrintsOne (IsQuiet S.crypto file.now) (O.contents out.old) (O.contents out.new) result }
+    ensures prints { PrintsUnmet O.contents out.old out.new S.crypto file.now result }
     ensures status { IfOk result (λ status. status ≤ 1) }
     ensures fault { O.failed out.new ≡ write_failed (O.failed out.old) result }
     ensures written { IfErr result (λ e. e ≢ Fault.Read) }
+    ensures reports { ReportsFile P.reports S.crypto file.now progress.old progress.new result }
 {
     match recording_for::<S>(alloc, file) {
-        Ok(recorded) => play_quietly::<S, O>(alloc, &recorded, out),
+        Ok(recorded) => play_quietly::<S, O, P>(alloc, &recorded, out, progress),
         Err(error) => print_error(alloc, error, out),
     }
 }
@@ -166,83 +193,97 @@ pub fn replay_quietly<S: Suite, O: Output>(
 /// Prints the ratchet tree of the member that has this number when all actions of a recording for the suite are done,
 /// in hex digits, and answers the exit status; or the refusal of the file (`BadJson` (9), `NotHex` (8)), or that there
 /// is no such member (`NoSuchMember` (90)), that it was removed (`Gone` (40)), or that the tree is too long (`TooLong`
-/// (6)). Nothing is compared with what is expected.
-pub fn replay_tree<S: Suite, O: Output>(
+/// (6)). Nothing is compared with what is expected. Each action is reported as done.
+pub fn replay_tree<S: Suite, O: Output, P: Progress>(
     alloc: Global,
     file: &[u8],
     number: usize,
     out: &mut O,
+    progress: &mut P,
 ) -> Result<u8, Fault>
-    ensures prints { PrintsOne (IsMemberTree S.crypto number file.now) (O.contents out.old) (O.contents out.new) result }
+    ensures prints { PrintsMemberTree O.contents out.old out.new S.crypto number file.now result }
     ensures status { IfOk result (λ status. status ≤ 1) }
     ensures fault { O.failed out.new ≡ write_failed (O.failed out.old) result }
     ensures written { IfErr result (λ e. e ≢ Fault.Read) }
+    ensures reports { ReportsFile P.reports S.crypto file.now progress.old progress.new result }
 {
     match recording_for::<S>(alloc, file) {
-        Ok(recorded) => print_tree::<S, O>(alloc, recorded.actions.as_slice(), number, out),
+        Ok(recorded) => {
+            print_tree::<S, O, P>(alloc, recorded.actions.as_slice(), number, out, progress)
+        }
         Err(error) => print_error(alloc, error, out),
     }
 }
 
 /// Prints a recording for the suite again, where each action expects the reply that it has now, and in version 2 the
 /// lines of members in the end are those of now; or the refusal of the file (`BadJson` (9), `NotHex` (8)). It answers
-/// the exit status. All actions are done before anything is printed.
-pub fn replay_record<S: Suite, O: Output>(
+/// the exit status. All actions are done, and each is reported, before anything is printed.
+pub fn replay_record<S: Suite, O: Output, P: Progress>(
     alloc: Global,
     file: &[u8],
     out: &mut O,
+    progress: &mut P,
 ) -> Result<u8, Fault>
-    ensures prints { PrintsOne (IsRecorded S.crypto file.now) (O.contents out.old) (O.contents out.new) result }
+    ensures prints { PrintsRecorded O.contents out.old out.new S.crypto file.now result }
     ensures status { IfOk result (λ status. status ≤ 1) }
     ensures fault { O.failed out.new ≡ write_failed (O.failed out.old) result }
     ensures written { IfErr result (λ e. e ≢ Fault.Read) }
+    ensures reports { ReportsFile P.reports S.crypto file.now progress.old progress.new result }
 {
     match recording_for::<S>(alloc, file) {
-        Ok(recorded) => record_again::<S, O>(alloc, file, &recorded, out),
+        Ok(recorded) => record_again::<S, O, P>(alloc, file, &recorded, out, progress),
         Err(error) => print_error(alloc, error, out),
     }
 }
 
-/// Prints a recording again, of which this was read.
-fn record_again<S: Suite, O: Output>(
+/// Prints a recording again, of which this was read, and reports each action as done.
+fn record_again<S: Suite, O: Output, P: Progress>(
     alloc: Global,
     file: &[u8],
     recorded: &RecordedRun,
     out: &mut O,
+    progress: &mut P,
 ) -> Result<u8, Fault>
-    ensures prints { PrintsOne (IsRecord S.crypto file.now recorded.now.actions.items)
-        (O.contents out.old) (O.contents out.new) result }
+    ensures prints { PrintsRecord O.contents out.old out.new S.crypto file.now recorded.now result }
     ensures status { IfOk result (λ status. status ≤ 1) }
     ensures fault { O.failed out.new ≡ write_failed (O.failed out.old) result }
     ensures written { IfErr result (λ e. e ≢ Fault.Read) }
+    ensures reports { ReportsRun P.reports recorded.now progress.old progress.new result }
 {
     match value_in(alloc, file) {
-        Ok(value) => print_record::<S, O>(alloc, value, recorded.actions.as_slice(), out),
+        Ok(value) => {
+            print_record::<S, O, P>(alloc, value, recorded.actions.as_slice(), out, progress)
+        }
         // Want of memory: the file is JSON, since it was read as a recording.
         Err(_) => Err(Fault::OutOfMemory),
     }
 }
 
-/// Prints such a view of a recording for the suite, and answers the exit status.
-pub fn print_view<S: Suite, O: Output>(
+/// Prints such a view of a recording for the suite, reports each action as done, and answers the exit status.
+pub fn print_view<S: Suite, O: Output, P: Progress>(
     alloc: Global,
     file: &[u8],
     view: ReplayView,
     out: &mut O,
+    progress: &mut P,
 ) -> Result<u8, Fault>
     // The output grows by the view's text, or on a fault by less than that.
-    ensures prints { PrintsOne (IsView S.crypto view file.now) (O.contents out.old) (O.contents out.new) result }
+    ensures prints { PrintsView O.contents out.old out.new S.crypto view file.now result }
     ensures status { IfOk result (λ status. status ≤ 1) }
     // A fault of the output comes just where a write fails.
     ensures fault { O.failed out.new ≡ write_failed (O.failed out.old) result }
     ensures written { IfErr result (λ e. e ≢ Fault.Read) }
+    // Each action of the recording is reported once, in order; on a fault those that were done before.
+    ensures reports { ReportsFile P.reports S.crypto file.now progress.old progress.new result }
 {
     match view {
-        ReplayView::Replies => replay::<S, O>(alloc, file, out),
-        ReplayView::Unmet => replay_quietly::<S, O>(alloc, file, out),
-        ReplayView::Message(number) => replay_message::<S, O>(alloc, file, number, out),
-        ReplayView::Tree(number) => replay_tree::<S, O>(alloc, file, number, out),
-        ReplayView::Recording => replay_record::<S, O>(alloc, file, out),
+        ReplayView::Replies => print_replay::<S, O, P>(alloc, file, out, progress),
+        ReplayView::Unmet => replay_quietly::<S, O, P>(alloc, file, out, progress),
+        ReplayView::Message(number) => {
+            replay_message::<S, O, P>(alloc, file, number, out, progress)
+        }
+        ReplayView::Tree(number) => replay_tree::<S, O, P>(alloc, file, number, out, progress),
+        ReplayView::Recording => replay_record::<S, O, P>(alloc, file, out, progress),
     }
 }
 

@@ -85,7 +85,7 @@ fn present_words(
 }
 
 fn expected_words(alloc: Global, action: usize, text: &str) -> Result<String, AllocError>
-    ensures { IfOk result (λ words. string_bytes words ≡ entry_words (expected action text.now)) }
+    ensures { HasWords string_bytes (expected action text.now) result }
 {
     format!(in alloc; "{action}: expected {text}")
 }

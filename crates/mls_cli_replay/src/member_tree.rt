@@ -1,13 +1,14 @@
 //! The ratchet tree of a member, printed in hex digits.
 
-ghost use Rattle.std.specs.Prelude.{◌≡◌, ◌≢◌, ◌≤◌, IfOk, IfErr, option_copied};
+ghost use Rattle.std.specs.Prelude.{◌≡◌, ◌≢◌, ◌≤◌, length, IfOk, IfErr, option_copied};
 ghost use Rattle.mls_cli_text.specs.InputOutput.{write_failed};
-ghost use Rattle.mls_cli_replay.specs.MemberTree.{IsTree, IsTreeOf, IsTreeOn, MakesTree};
+ghost use Rattle.mls_cli_replay.specs.MemberTree.{IsTreeOf, IsTreeOn, MakesTree, PrintsTree};
 ghost use Rattle.mls_cli_replay.specs.Message.{digits_text};
-ghost use Rattle.mls_cli_replay.specs.Replay.{PrintsOne};
+ghost use Rattle.mls_cli_replay.specs.Progress.{Reports};
 ghost use Rattle.mls_cli_replay.specs.TreeLaws.{tree_nonempty};
 
 use crate::message::do_actions;
+use crate::progress::Progress;
 use mls_cli_recording::Recorded;
 use mls_cli_text::{Ending, Fault, Output, Page, Printed, print_made_page, refused_page};
 use mls_suite::Suite;
@@ -66,20 +67,22 @@ fn found_page<S: Suite>(
 }
 
 /// Does the actions in a new world, and prints the ratchet tree of the member of this number, or that there is none
-/// (`NoSuchMember` (90)), that it was removed (`Gone` (40)), or that the tree is too long (`TooLong` (6)). It answers
-/// the exit status.
-pub fn print_tree<S: Suite, O: Output>(
+/// (`NoSuchMember` (90)), that it was removed (`Gone` (40)), or that the tree is too long (`TooLong` (6)). Each action
+/// is reported as done. It answers the exit status.
+pub fn print_tree<S: Suite, O: Output, P: Progress>(
     alloc: Global,
     recorded: &[Recorded],
     number: usize,
     out: &mut O,
+    progress: &mut P,
 ) -> Result<u8, Fault>
-    ensures prints { PrintsOne (IsTree S.crypto number recorded.now) (O.contents out.old) (O.contents out.new) result }
+    ensures prints { PrintsTree O.contents out.old out.new S.crypto number recorded.now result }
     ensures status { IfOk result (λ status. status ≤ 1) }
     ensures fault { O.failed out.new ≡ write_failed (O.failed out.old) result }
     ensures written { IfErr result (λ e. e ≢ Fault.Read) }
+    ensures reports { Reports P.reports (length recorded.now) progress.old progress.new result }
 {
     let mut world = World::<S>::new(alloc);
-    do_actions(alloc, &mut world, recorded)?;
+    do_actions(alloc, &mut world, recorded, progress)?;
     print_made_page(alloc, found_page(alloc, world.member(number)), out)
 }

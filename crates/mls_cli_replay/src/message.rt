@@ -1,14 +1,15 @@
 //! One message of a world, printed in hex digits.
 
-ghost use Rattle.std.specs.Prelude.{◌≡◌, ◌≢◌, ◌≤◌, false, IfOk, IfErr, None, OnOk, option_copied};
-ghost use Rattle.mls_cli_replay.specs.Actions.{run_all};
+ghost use Rattle.std.specs.Prelude.{◌≡◌, ◌≢◌, ◌≤◌, false, length, IfOk, IfErr, None, option_copied};
+ghost use Rattle.mls_cli_replay.specs.Actions.{DoesAll};
+ghost use Rattle.mls_cli_replay.specs.Progress.{Reports};
 ghost use Rattle.mls_cli_text.specs.InputOutput.{write_failed};
-ghost use Rattle.mls_cli_text.specs.Page.{page_of};
 ghost use Rattle.mls_cli_replay.specs.DigitsLaws.{digits_nonempty};
-ghost use Rattle.mls_cli_replay.specs.Message.{PrintsFound, digits_text, page_on};
+ghost use Rattle.mls_cli_replay.specs.Message.{MakesDigits, PrintsFound, digits_text};
 ghost use Rattle.mls_cli_replay.specs.Replay.{actions_of};
 
 use crate::actions::play_actions;
+use crate::progress::Progress;
 use mls_cli_recording::Recorded;
 use mls_cli_text::{Ending, Fault, Output, Page, Printed, print_made_page, refused_page};
 use mls_suite::Suite;
@@ -47,16 +48,18 @@ impl Output for Nowhere {
     }
 }
 
-/// Does the actions and prints nothing.
-pub fn do_actions<S: Suite>(
+/// Does the actions, reports each as done, and prints nothing.
+pub fn do_actions<S: Suite, P: Progress>(
     alloc: Global,
     world: &mut World<S>,
     recorded: &[Recorded],
+    progress: &mut P,
 ) -> Result<(), Fault>
-    ensures world { OnOk result (world.new ≡ run_all S.crypto world.old (actions_of recorded.now)) }
+    ensures world { DoesAll S.crypto world.old world.new (actions_of recorded.now) result }
     ensures fault { IfErr result (λ e. e ≡ Fault.OutOfMemory) }
+    ensures reports { Reports P.reports (length recorded.now) progress.old progress.new result }
 {
-    match play_actions(alloc, world, recorded, &mut Nowhere) {
+    match play_actions(alloc, world, recorded, &mut Nowhere, progress) {
         Ok(_) => Ok(()),
         // Want of memory: `Nowhere` takes all that is put.
         Err(_) => Err(Fault::OutOfMemory),
@@ -65,7 +68,7 @@ pub fn do_actions<S: Suite>(
 
 /// The page of a message, or of the refusal where there is none (`NoSuchMessage` (94)).
 fn message_page(alloc: Global, found: Option<&[u8]>) -> Result<Page<Digits<'_>>, AllocError>
-    ensures { IfOk result (λ page. page_of (λ d. d.message.now) page ≡ page_on (option_copied found.entry)) }
+    ensures { MakesDigits (option_copied found.entry) result }
 {
     match found {
         Some(message) => Ok(Page {
@@ -77,19 +80,21 @@ fn message_page(alloc: Global, found: Option<&[u8]>) -> Result<Page<Digits<'_>>,
 }
 
 /// Does the actions in a new world, and prints the message of this number, or that there is none (`NoSuchMessage`
-/// (94)). It answers the exit status.
-pub fn print_message<S: Suite, O: Output>(
+/// (94)). Each action is reported as done. It answers the exit status.
+pub fn print_message<S: Suite, O: Output, P: Progress>(
     alloc: Global,
     recorded: &[Recorded],
     number: usize,
     out: &mut O,
+    progress: &mut P,
 ) -> Result<u8, Fault>
     ensures prints { PrintsFound O.contents out.old out.new S.crypto number recorded.now result }
     ensures status { IfOk result (λ status. status ≤ 1) }
     ensures fault { O.failed out.new ≡ write_failed (O.failed out.old) result }
     ensures written { IfErr result (λ e. e ≢ Fault.Read) }
+    ensures reports { Reports P.reports (length recorded.now) progress.old progress.new result }
 {
     let mut world = World::<S>::new(alloc);
-    do_actions(alloc, &mut world, recorded)?;
+    do_actions(alloc, &mut world, recorded, progress)?;
     print_made_page(alloc, message_page(alloc, world.message(number)), out)
 }

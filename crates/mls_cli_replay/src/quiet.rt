@@ -1,14 +1,16 @@
 //! The actions whose texts aren't as expected, and the end of a replay.
 
-ghost use Rattle.std.specs.Prelude.{◌≡◌, ◌≢◌, ◌≤◌, ◌++◌, map, option_map, IfOk, IfErr, OnOk};
+ghost use Rattle.std.specs.Prelude.{◌≡◌, ◌≢◌, ◌≤◌, ◌++◌, length, map, option_map, IfOk, IfErr, OnOk};
 ghost use Rattle.mls_cli_text.specs.InputOutput.{write_failed};
-ghost use Rattle.mls_cli_replay.specs.Actions.{outcomes, run_all};
-ghost use Rattle.mls_cli_replay.specs.Quiet.{PrintsQuiet, quiet_action, quiet_actions};
-ghost use Rattle.mls_cli_replay.specs.Replay.{actions_of, entry_of, expectations_of};
+ghost use Rattle.mls_cli_replay.specs.Actions.{DoesAll};
+ghost use Rattle.mls_cli_replay.specs.Progress.{Reports, ReportsRun};
+ghost use Rattle.mls_cli_replay.specs.Quiet.{CollectsUnmet, PrintsQuiet, quiet_action};
+ghost use Rattle.mls_cli_replay.specs.Replay.{actions_of, entry_of};
 
 use crate::actions::{do_action, is_met};
 use crate::ends::print_end;
 use crate::line::ReplayLine;
+use crate::progress::Progress;
 use crate::reply::Outcome;
 use crate::status_of;
 use mls_cli_recording::{Recorded, RecordedRun};
@@ -41,38 +43,44 @@ fn push_unmet<'a>(
     }
 }
 
-/// Does the actions, and makes the lines of those whose texts aren't as expected. It prints nothing.
-fn collect_unmet<'a, S: Suite>(
+/// Does the actions, reports each as done, and makes the lines of those whose texts aren't as expected. It prints
+/// nothing.
+fn collect_unmet<'a, S: Suite, P: Progress>(
     alloc: Global,
     world: &mut World<S>,
     recorded: &'a [Recorded],
+    progress: &mut P,
 ) -> Result<Vec<ReplayLine<'a>>, AllocError>
-    ensures world { OnOk result (world.new ≡ run_all S.crypto world.old (actions_of recorded.now)) }
-    ensures lines { IfOk result (λ v. map entry_of v.items
-        ≡ quiet_actions 0 (outcomes S.crypto world.old (actions_of recorded.now)) (expectations_of recorded.now)) }
+    ensures world { DoesAll S.crypto world.old world.new (actions_of recorded.now) result }
+    ensures lines { CollectsUnmet S.crypto world.old recorded.now result }
+    ensures reports { Reports P.reports (length recorded.now) progress.old progress.new result }
 {
     let mut lines = Vec::new(alloc);
     for (action, one) in recorded.iter().enumerate() {
         let outcome = do_action(alloc, world, &one.action)?;
         push_unmet(alloc, &mut lines, action, outcome, one.expect.as_deref())?;
+        progress.report(action + 1, recorded.len());
     }
     Ok(lines)
 }
 
 /// Does the actions in a new world, and then prints the lines of those whose texts aren't as expected, a line for each
-/// member, and where these lines aren't those that are expected. It answers the exit status, as for a whole replay.
-pub fn play_quietly<S: Suite, O: Output>(
+/// member, and where these lines aren't those that are expected. Each action is reported as done. It answers the exit
+/// status, as for a whole replay.
+pub fn play_quietly<S: Suite, O: Output, P: Progress>(
     alloc: Global,
     recorded: &RecordedRun,
     out: &mut O,
+    progress: &mut P,
 ) -> Result<u8, Fault>
     ensures prints { PrintsQuiet O.contents out.old out.new S.crypto recorded.now result }
     ensures status { IfOk result (λ status. status ≤ 1) }
     ensures fault { O.failed out.new ≡ write_failed (O.failed out.old) result }
     ensures written { IfErr result (λ e. e ≢ Fault.Read) }
+    ensures reports { ReportsRun P.reports recorded.now progress.old progress.new result }
 {
     let mut world = World::<S>::new(alloc);
-    let unmet = collect_unmet(alloc, &mut world, recorded.actions.as_slice())?;
+    let unmet = collect_unmet(alloc, &mut world, recorded.actions.as_slice(), progress)?;
     let lines = unmet.as_slice();
     print_lines(alloc, lines, out)?;
     let texts = recorded.final_lines.as_deref();

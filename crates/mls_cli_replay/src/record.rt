@@ -1,18 +1,18 @@
 //! A recording, printed again with what it came to.
 
-ghost use Rattle.std.specs.Prelude.{◌≡◌, ◌≢◌, ◌≤◌, map, string_bytes, IfOk, IfErr, OnOk};
-ghost use Rattle.serde_json.specs.View.{view};
+ghost use Rattle.std.specs.Prelude.{◌≡◌, ◌≢◌, ◌≤◌, length, map, string_bytes, IfOk, IfErr};
 ghost use Rattle.mls_cli_text.specs.InputOutput.{write_failed};
-ghost use Rattle.mls_cli_record.specs.Record.{record_of};
-ghost use Rattle.mls_cli_replay.specs.Actions.{outcomes, run_all};
+ghost use Rattle.mls_cli_replay.specs.Actions.{outcomes, DoesAll};
+ghost use Rattle.mls_cli_replay.specs.Progress.{Reports};
 ghost use Rattle.mls_cli_replay.specs.RecordLaws.{file_text_nonempty};
-ghost use Rattle.mls_cli_replay.specs.RecordedReplies.{IsRecordOf, MakesText, file_text, words_of_members};
-ghost use Rattle.mls_cli_replay.specs.Replay.{PrintsOne, actions_of};
+ghost use Rattle.mls_cli_replay.specs.RecordedReplies.{MakesRecord, PrintsRecordOf, file_text, words_of_members};
+ghost use Rattle.mls_cli_replay.specs.Replay.{actions_of};
 ghost use Rattle.mls_cli_replay.specs.Reply.{outcome_text};
 
 use crate::actions::do_action;
 use crate::line::line_words;
 use crate::members::member_line;
+use crate::progress::Progress;
 use crate::reply::outcome_text;
 use mls_cli_record::record_replies;
 use mls_cli_recording::Recorded;
@@ -41,20 +41,23 @@ impl Printed for FileText {
     }
 }
 
-/// Does the actions, and makes the text of each reply. It prints nothing.
-fn collect_replies<S: Suite>(
+/// Does the actions, reports each as done, and makes the text of each reply. It prints nothing.
+fn collect_replies<S: Suite, P: Progress>(
     alloc: Global,
     world: &mut World<S>,
     recorded: &[Recorded],
+    progress: &mut P,
 ) -> Result<Vec<String>, AllocError>
-    ensures world { OnOk result (world.new ≡ run_all S.crypto world.old (actions_of recorded.now)) }
+    ensures world { DoesAll S.crypto world.old world.new (actions_of recorded.now) result }
     ensures texts { IfOk result (λ v. map string_bytes v.items
         ≡ map outcome_text (outcomes S.crypto world.old (actions_of recorded.now))) }
+    ensures reports { Reports P.reports (length recorded.now) progress.old progress.new result }
 {
     let mut texts = Vec::new(alloc);
-    for one in recorded {
+    for (action, one) in recorded.iter().enumerate() {
         let outcome = do_action(alloc, world, &one.action)?;
         texts.push(outcome_text(alloc, outcome)?)?;
+        progress.report(action + 1, recorded.len());
     }
     Ok(texts)
 }
@@ -80,7 +83,7 @@ fn record_page(
     replies: &[String],
     lines: &[String],
 ) -> Result<Page<FileText>, AllocError>
-    ensures { MakesText (record_of (map string_bytes replies.now) (map string_bytes lines.now) (view value)) result }
+    ensures { MakesRecord replies.now lines.now value result }
 {
     let text = record_replies(alloc, value, replies, lines)?;
     Ok(Page {
@@ -90,20 +93,22 @@ fn record_page(
 }
 
 /// Does the actions of a recording in a new world, and prints the recording again, with each reply and in version 2
-/// each line of a member in the end as what is expected. It answers the exit status.
-pub fn print_record<S: Suite, O: Output>(
+/// each line of a member in the end as what is expected. Each action is reported as done. It answers the exit status.
+pub fn print_record<S: Suite, O: Output, P: Progress>(
     alloc: Global,
     value: Value,
     recorded: &[Recorded],
     out: &mut O,
+    progress: &mut P,
 ) -> Result<u8, Fault>
-    ensures prints { PrintsOne (IsRecordOf S.crypto (view value) recorded.now) (O.contents out.old) (O.contents out.new) result }
+    ensures prints { PrintsRecordOf O.contents out.old out.new S.crypto value recorded.now result }
     ensures status { IfOk result (λ status. status ≤ 1) }
     ensures fault { O.failed out.new ≡ write_failed (O.failed out.old) result }
     ensures written { IfErr result (λ e. e ≢ Fault.Read) }
+    ensures reports { Reports P.reports (length recorded.now) progress.old progress.new result }
 {
     let mut world = World::<S>::new(alloc);
-    let replies = collect_replies(alloc, &mut world, recorded)?;
+    let replies = collect_replies(alloc, &mut world, recorded, progress)?;
     let lines = member_texts(alloc, &world)?;
     let page = record_page(alloc, value, replies.as_slice(), lines.as_slice());
     print_made_page(alloc, page, out)

@@ -1,5 +1,5 @@
 -- The lines of a list, item by item.
-use Rattle.std.proofs.Common.{◌≡◌, ◌∙◌, ◌<◌, ◌+◌, ℕ, zero, suc, List, [], ◌∷◌, ◌++◌, length, take, get_or, refl, ap, sym, arith, append_assoc, append-nil}
+use Rattle.std.proofs.Common.{◌≡◌, ◌∙◌, ◌<◌, ◌+◌, ℕ, zero, suc, List, [], ◌∷◌, ◌++◌, length, take, get_or, ap, sym, arith, append_assoc, append-nil}
 use Rattle.std.specs.List.{enumerate_from, flat_map}
 use Rattle.mls_cli_text.specs.Text.{Entry}
 use Rattle.mls_cli_show.specs.Numbered.{numbered}

@@ -20,18 +20,23 @@ shown_count (Some n) = number n
 
 -- RFC 9420, section 12.1: which kind of proposal it is, and what it says, each name behind a prefix
 abbrev pub proposal_item_entries : List ℕ → proposals.Proposal → List Entry
-proposal_item_entries prefix (proposal.Add v) = entry prefix (codes "kind") (word (codes "add")) ∷ key_package_entries prefix v
-proposal_item_entries prefix (proposal.Update v) = entry prefix (codes "kind") (word (codes "update")) ∷ leaf_entries prefix v
+proposal_item_entries prefix (proposal.Add v) =
+    entry prefix (codes "kind") (word (codes "add")) ∷ key_package_entries prefix v
+proposal_item_entries prefix (proposal.Update v) =
+    entry prefix (codes "kind") (word (codes "update")) ∷ leaf_entries prefix v
 proposal_item_entries prefix (proposal.Remove removed) =
-    entry prefix (codes "kind") (word (codes "remove")) ∷ entry prefix (codes "removed") (number removed) ∷ []
+    entry prefix (codes "kind") (word (codes "remove"))
+    ∷ entry prefix (codes "removed") (number removed) ∷ []
 proposal_item_entries prefix (proposal.GroupContextExtensions vs) =
-    entry prefix (codes "kind") (word (codes "group_context_extensions")) ∷ extension_entries prefix vs
+    entry prefix (codes "kind") (word (codes "group_context_extensions"))
+    ∷ extension_entries prefix vs
 
 -- RFC 9420, section 12.4: a proposal of a commit, or the reference of one
 abbrev pub item_entries : List ℕ → ProposalOrRef → List Entry
 item_entries prefix (item.Proposal v) = proposal_item_entries prefix v
 item_entries prefix (item.Reference v) =
-    entry prefix (codes "kind") (word (codes "reference")) ∷ entry prefix (codes "reference") (bytes v) ∷ []
+    entry prefix (codes "kind") (word (codes "reference"))
+    ∷ entry prefix (codes "reference") (bytes v) ∷ []
 
 abbrev pub listed_item : ℕ → ProposalOrRef → List Entry
 listed_item n v = item_entries (item_text (codes "proposal.") n) v
@@ -48,16 +53,17 @@ listed_path_node n v = path_node_entries (item_text (codes "path.") n) v
 -- RFC 9420, section 7.6: the committer's leaf and the nodes of its path, if it is there
 abbrev pub path_entries : Option UpdatePath → List Entry
 path_entries None = []
-path_entries (Some v) = leaf_entries (codes "path.") v.leaf_node ++ numbered listed_path_node v.nodes
+path_entries (Some v) =
+    leaf_entries (codes "path.") v.leaf_node ++ numbered listed_path_node v.nodes
 
--- RFC 9420, section 7.6: how many nodes the path of a commit has, if it is there
-abbrev pub path_nodes : Commit → Option ℕ
-path_nodes c = option_map (λ (path : UpdatePath). length path.nodes) c.path
+-- RFC 9420, section 7.6: how many nodes a path has, if it is there
+abbrev pub path_length : Option UpdatePath → Option ℕ
+path_length path = option_map (λ (p : UpdatePath). length p.nodes) path
 
 -- RFC 9420, section 12.4: a commit
 unfoldable pub commit_entries : Detail → Commit → List Entry
 commit_entries detail c =
     entry [] (codes "proposals") (number (length c.proposals))
     ∷ (in_full detail (numbered listed_item c.proposals)
-    ++ entry [] (codes "path_nodes") (shown_count (path_nodes c))
+    ++ entry [] (codes "path_nodes") (shown_count (path_length c.path))
     ∷ in_full detail (path_entries c.path))

@@ -1,6 +1,7 @@
 -- The lines of Welcomes and GroupInfos.
 use Rattle.std.specs.Prelude.{ℕ, List, [], ◌∷◌, ◌++◌, codes, length, map, option_map, Option, Some, None}
 use Rattle.mls_leaf.specs.declared.node.Node.{Node}
+use Rattle.mls_leaf.specs.declared.parent_node.ParentNode.{ParentNode}
 use Rattle.mls_leaf.specs.declared.node.Node.TheVariants as node
 use Rattle.mls_types.specs.declared.group_info.GroupInfo.{GroupInfo}
 use Rattle.mls_types.specs.declared.welcome.EncryptedGroupSecrets.{EncryptedGroupSecrets}
@@ -38,15 +39,20 @@ welcome_entries detail w =
 abbrev pub tree_nodes : Option (List (Option Node)) → Option ℕ
 tree_nodes tree = option_map length tree
 
+-- RFC 9420, section 7.1: a parent
+abbrev pub parent_entries : List ℕ → ParentNode → List Entry
+parent_entries prefix v =
+    entry prefix (codes "encryption_key") (bytes v.encryption_key)
+    ∷ entry prefix (codes "parent_hash") (bytes v.parent_hash)
+    ∷ entry prefix (codes "unmerged_leaves") (indexes v.unmerged_leaves) ∷ []
+
 -- RFC 9420, sections 7.1, 7.2 and 12.4.3.3: a node of a tree
 unfoldable pub node_entries : List ℕ → Option Node → List Entry
 node_entries prefix None = entry prefix (codes "kind") (word (codes "blank")) ∷ []
-node_entries prefix (Some (node.Leaf v)) = entry prefix (codes "kind") (word (codes "leaf")) ∷ leaf_entries prefix v
+node_entries prefix (Some (node.Leaf v)) =
+    entry prefix (codes "kind") (word (codes "leaf")) ∷ leaf_entries prefix v
 node_entries prefix (Some (node.Parent v)) =
-    entry prefix (codes "kind") (word (codes "parent"))
-    ∷ entry prefix (codes "encryption_key") (bytes v.encryption_key)
-    ∷ entry prefix (codes "parent_hash") (bytes v.parent_hash)
-    ∷ entry prefix (codes "unmerged_leaves") (indexes v.unmerged_leaves) ∷ []
+    entry prefix (codes "kind") (word (codes "parent")) ∷ parent_entries prefix v
 
 abbrev pub listed_node : ℕ → Option Node → List Entry
 listed_node n v = node_entries (item_text (codes "node.") n) v

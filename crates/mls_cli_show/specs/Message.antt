@@ -14,15 +14,21 @@ use Rattle.mls_cli_show.specs.Group.{group_info_entries, welcome_entries}
 
 -- the lines behind which kind of message it is, and in how many bytes it is spelled
 abbrev pub with_head : List ℕ → ℕ → List Entry → List Entry
-with_head kind size lines = entry [] (codes "message") (word kind) ∷ entry [] (codes "bytes") (number size) ∷ lines
+with_head kind size lines =
+    entry [] (codes "message") (word kind) ∷ entry [] (codes "bytes") (number size) ∷ lines
 
 -- RFC 9420, section 6: a message
 unfoldable pub message_entries : Detail → ℕ → MlsMessage → List Entry
-message_entries detail size (message.PublicMessage v) = with_head (codes "public_message") size (public_message_entries detail v)
-message_entries detail size (message.Welcome v) = with_head (codes "welcome") size (welcome_entries detail v)
-message_entries detail size (message.GroupInfo v) = with_head (codes "group_info") size (group_info_entries detail v)
-message_entries detail size (message.KeyPackage v) = with_head (codes "key_package") size (key_package_entries [] v)
+message_entries detail size (message.PublicMessage v) =
+    with_head (codes "public_message") size (public_message_entries detail v)
+message_entries detail size (message.Welcome v) =
+    with_head (codes "welcome") size (welcome_entries detail v)
+message_entries detail size (message.GroupInfo v) =
+    with_head (codes "group_info") size (group_info_entries detail v)
+message_entries detail size (message.KeyPackage v) =
+    with_head (codes "key_package") size (key_package_entries [] v)
 
 -- the lines of the message that the bytes spell, or the number of its first fault
 abbrev pub text_of : Detail → List ℕ → Result (List Entry) ℕ
-text_of detail bytes = whole mls_message input_limit bytes >>= λ m. Ok (message_entries detail (length bytes) m)
+text_of detail bytes =
+    whole mls_message input_limit bytes >>= λ m. Ok (message_entries detail (length bytes) m)

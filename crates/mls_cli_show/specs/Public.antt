@@ -22,10 +22,13 @@ leaf_index (sender.Member index) = index
 
 -- RFC 9420, section 12.1: a proposal
 unfoldable pub proposal_entries : proposals.Proposal → List Entry
-proposal_entries (proposal.Add v) = entry [] (codes "proposal") (word (codes "add")) ∷ key_package_entries (codes "add.") v
-proposal_entries (proposal.Update v) = entry [] (codes "proposal") (word (codes "update")) ∷ leaf_entries [] v
+proposal_entries (proposal.Add v) =
+    entry [] (codes "proposal") (word (codes "add")) ∷ key_package_entries (codes "add.") v
+proposal_entries (proposal.Update v) =
+    entry [] (codes "proposal") (word (codes "update")) ∷ leaf_entries [] v
 proposal_entries (proposal.Remove removed) =
-    entry [] (codes "proposal") (word (codes "remove")) ∷ entry [] (codes "removed") (number removed) ∷ []
+    entry [] (codes "proposal") (word (codes "remove"))
+    ∷ entry [] (codes "removed") (number removed) ∷ []
 proposal_entries (proposal.GroupContextExtensions vs) =
     entry [] (codes "proposal") (word (codes "group_context_extensions")) ∷ extension_entries [] vs
 

@@ -1,10 +1,9 @@
 //! The lines of commits.
 
-ghost use Rattle.std.specs.Prelude.{◌≡◌, ◌++◌, ◌∷◌, [], codes, length, option_map, IfOk};
+ghost use Rattle.std.specs.Prelude.{◌≡◌, ◌∷◌, [], codes, IfOk};
 ghost use Rattle.mls_cli_text.specs.Text.{entries_of, entry, prefix_text, shown_by, word};
-ghost use Rattle.mls_cli_show.specs.Commit.{commit_entries, listed_item, listed_path_node, path_entries, proposal_item_entries, shown_count};
+ghost use Rattle.mls_cli_show.specs.Commit.{commit_entries, listed_item, listed_path_node, path_entries, path_length, proposal_item_entries, shown_count};
 ghost use Rattle.mls_cli_show.specs.Numbered.{in_full};
-ghost use Rattle.mls_types.specs.declared.update_path.UpdatePath.{UpdatePath};
 
 use crate::extensions::extension_lines;
 use crate::numbered::{Detail, Listed, list_lines, list_lines_in_full};
@@ -113,7 +112,7 @@ fn path_lines(alloc: Global, path: Option<UpdatePath>) -> Result<Vec<Line>, Allo
 }
 
 fn path_count(path: &Option<UpdatePath>) -> Option<usize>
-    ensures { result ≡ option_map (λ (path : UpdatePath). length path.nodes) path.now }
+    ensures { result ≡ path_length path.now }
 {
     match path {
         Some(path) => Some(path.nodes.as_slice().len()),
@@ -128,7 +127,7 @@ fn path_part(
     path: Option<UpdatePath>,
 ) -> Result<Vec<Line>, AllocError>
     ensures { IfOk result (λ v. entries_of v
-        ≡ entry [] (codes "path_nodes") (shown_count (option_map (λ (path : UpdatePath). length path.nodes) path))
+        ≡ entry [] (codes "path_nodes") (shown_count (path_length path))
         ∷ in_full detail (path_entries path)) }
 {
     let count = line_of("path_nodes", count_field(path_count(&path)));

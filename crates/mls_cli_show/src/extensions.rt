@@ -9,7 +9,8 @@ use mls_leaf::Extension;
 use std::alloc::{AllocError, Global};
 
 fn extension_line(prefix: Prefix, extension: &Extension) -> Result<Line, AllocError>
-    ensures { IfOk result (λ line. entry_of line ≡ extension_entry (prefix_text prefix) extension.now) }
+    ensures { IfOk result (λ line. entry_of line
+        ≡ extension_entry (prefix_text prefix) extension.now) }
 {
     let content = extension.content.clone()?;
     let field = Field::Extension(extension.kind, content);

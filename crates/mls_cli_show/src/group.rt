@@ -1,10 +1,10 @@
 //! The lines of Welcomes and GroupInfos.
 
-ghost use Rattle.std.specs.Prelude.{◌≡◌, ◌++◌, ◌∷◌, [], codes, map, IfOk};
-ghost use Rattle.mls_cli_text.specs.Text.{bytes, digits, entries_of, entry, entry_of, indexes, number, prefix_text};
+ghost use Rattle.std.specs.Prelude.{◌≡◌, ◌∷◌, [], codes, map, IfOk};
+ghost use Rattle.mls_cli_text.specs.Text.{bytes, digits, entries_of, entry, entry_of, number, prefix_text};
 ghost use Rattle.mls_cli_show.specs.Extensions.{extension_entries};
 ghost use Rattle.mls_cli_show.specs.Commit.{shown_count};
-ghost use Rattle.mls_cli_show.specs.Group.{group_info_entries, listed_node, listed_secrets, member_entry, nodes_entries, tree_nodes, welcome_entries};
+ghost use Rattle.mls_cli_show.specs.Group.{group_info_entries, listed_node, listed_secrets, member_entry, nodes_entries, parent_entries, tree_nodes, welcome_entries};
 ghost use Rattle.mls_cli_show.specs.Numbered.{in_full, numbered};
 
 use crate::commit::{count_field, with_kind};
@@ -140,10 +140,7 @@ fn tree_count(tree: &Option<RatchetTree>) -> Option<usize>
 
 /// The lines of a parent.
 fn parent_lines(alloc: Global, prefix: Prefix, parent: &ParentNode) -> Result<Vec<Line>, AllocError>
-    ensures { IfOk result (λ v. entries_of v
-        ≡ entry (prefix_text prefix) (codes "encryption_key") (bytes parent.now.encryption_key)
-        ∷ entry (prefix_text prefix) (codes "parent_hash") (bytes parent.now.parent_hash)
-        ∷ entry (prefix_text prefix) (codes "unmerged_leaves") (indexes parent.now.unmerged_leaves) ∷ []) }
+    ensures { IfOk result (λ v. entries_of v ≡ parent_entries (prefix_text prefix) parent.now) }
 {
     let key = Bytes::from_slice(alloc, parent.encryption_key())?;
     let hash = Bytes::from_slice(alloc, parent.parent_hash())?;
@@ -193,7 +190,8 @@ fn nodes_lines(
 }
 
 fn count_lines(alloc: Global, nodes: Option<usize>) -> Result<Vec<Line>, AllocError>
-    ensures { IfOk result (λ v. entries_of v ≡ entry [] (codes "tree_nodes") (shown_count nodes) ∷ []) }
+    ensures { IfOk result (λ v. entries_of v
+        ≡ entry [] (codes "tree_nodes") (shown_count nodes) ∷ []) }
 {
     Ok(vec![in alloc; line_of("tree_nodes", count_field(nodes))]?)
 }

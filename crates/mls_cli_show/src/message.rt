@@ -1,6 +1,6 @@
 //! The lines of messages.
 
-ghost use Rattle.std.specs.Prelude.{◌≡◌, ◌++◌, [], map, length, IfOk, Ok};
+ghost use Rattle.std.specs.Prelude.{◌≡◌, map, IfOk, Ok};
 ghost use Rattle.mls_leaf.specs.Faults.{FaultsOutright, Gives};
 ghost use Rattle.mls_cli_text.specs.Text.{entries_of, entry_of};
 ghost use Rattle.mls_cli_show.specs.Message.{with_head, message_entries, text_of};
@@ -38,7 +38,7 @@ pub fn message_lines(
     size: usize,
     message: MlsMessage,
 ) -> Result<Vec<Line>, AllocError>
-    ensures { IfOk result (λ lines. map entry_of lines.items ≡ message_entries detail size message) }
+    ensures { IfOk result (λ lines. entries_of lines ≡ message_entries detail size message) }
 {
     match message {
         MlsMessage::KeyPackage(key_package) => {

@@ -1,8 +1,8 @@
 //! The lines of leaves and KeyPackages.
 
 ghost use Rattle.std.specs.Prelude.{◌≡◌, ◌∷◌, [], codes, map, IfOk};
-ghost use Rattle.mls_cli_text.specs.Text.{bytes, digits, entries_of, entry, entry_of, numbers, prefix_text};
-ghost use Rattle.mls_cli_show.specs.Package.{key_package_entries, leaf_entries, source_entries};
+ghost use Rattle.mls_cli_text.specs.Text.{bytes, digits, entries_of, entry, entry_of, prefix_text};
+ghost use Rattle.mls_cli_show.specs.Package.{capabilities_entries, key_package_entries, leaf_entries, source_entries};
 
 use mls_cli_text::{Field, Line, Prefix, append_line, append_lines, line_with};
 use mls_leaf::{Bytes, Capabilities, Credential, KeyPackage, LeafNode, LeafSource};
@@ -33,12 +33,8 @@ fn capability_lines(
     prefix: Prefix,
     capabilities: Capabilities,
 ) -> Result<Vec<Line>, AllocError>
-    ensures { IfOk result (λ lines. map entry_of lines.items
-        ≡ entry (prefix_text prefix) (codes "leaf.versions") (numbers capabilities.versions)
-        ∷ entry (prefix_text prefix) (codes "leaf.cipher_suites") (numbers capabilities.cipher_suites)
-        ∷ entry (prefix_text prefix) (codes "leaf.extensions") (numbers capabilities.extensions)
-        ∷ entry (prefix_text prefix) (codes "leaf.proposals") (numbers capabilities.proposals)
-        ∷ entry (prefix_text prefix) (codes "leaf.credentials") (numbers capabilities.credentials) ∷ []) }
+    ensures { IfOk result (λ lines. entries_of lines
+        ≡ capabilities_entries (prefix_text prefix) capabilities) }
 {
     let Capabilities {
         versions,
@@ -81,7 +77,7 @@ fn source_lines(alloc: Global, prefix: Prefix, source: LeafSource) -> Result<Vec
 /// The lines of a leaf, each with the prefix.
 #[tactic(auto, unfolding(crate::specs::Package::leaf_entries))]
 pub fn leaf_lines(alloc: Global, prefix: Prefix, leaf: LeafNode) -> Result<Vec<Line>, AllocError>
-    ensures { IfOk result (λ lines. map entry_of lines.items ≡ leaf_entries (prefix_text prefix) leaf) }
+    ensures { IfOk result (λ lines. entries_of lines ≡ leaf_entries (prefix_text prefix) leaf) }
 {
     let LeafNode {
         encryption_key,
@@ -123,7 +119,8 @@ pub fn key_package_lines(
     prefix: Prefix,
     key_package: KeyPackage,
 ) -> Result<Vec<Line>, AllocError>
-    ensures { IfOk result (λ v. entries_of v ≡ key_package_entries (prefix_text prefix) key_package) }
+    ensures { IfOk result (λ lines. entries_of lines
+        ≡ key_package_entries (prefix_text prefix) key_package) }
 {
     let KeyPackage {
         cipher_suite,

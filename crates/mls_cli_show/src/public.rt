@@ -59,7 +59,8 @@ fn with_word_line(
 
 fn remove_lines(alloc: Global, removed: u32) -> Result<Vec<Line>, AllocError>
     ensures { IfOk result (λ lines. map entry_of lines.items
-        ≡ entry [] (codes "proposal") (word (codes "remove")) ∷ entry [] (codes "removed") (number removed) ∷ []) }
+        ≡ entry [] (codes "proposal") (word (codes "remove"))
+        ∷ entry [] (codes "removed") (number removed) ∷ []) }
 {
     Ok(vec![in alloc;
         line_of("proposal", Field::Word("remove")),
@@ -191,7 +192,7 @@ pub fn public_message_lines(
     detail: Detail,
     message: PublicMessage,
 ) -> Result<Vec<Line>, AllocError>
-    ensures { IfOk result (λ lines. map entry_of lines.items ≡ public_message_entries detail message) }
+    ensures { IfOk result (λ lines. entries_of lines ≡ public_message_entries detail message) }
 {
     let PublicMessage {
         content,

@@ -7,6 +7,7 @@ use crate::open_source;
 use crate::serving::serve;
 use crate::tests::rows::{JOIN, JOIN_TEXT};
 use crate::tests::{KEY_PACKAGE, OUT_OF_MEMORY, TEXT, unless_out_of_memory};
+use mls_cli_replay::Silent;
 use mls_cli_text::{Fault, In, Out, Output};
 use std::alloc::{AllocError, Global};
 use std::io;
@@ -56,6 +57,7 @@ fn goes_on_after_interrupted_writes(rt: HostRuntime) -> Result<(), Fail> {
         &mut file,
         &mut Out::new(&mut halting),
         &mut Out::new(&mut errors),
+        &mut Silent,
     );
     unless_out_of_memory(status, errors.as_slice())?;
     assert_eq!(rt; status, 0);
@@ -81,7 +83,14 @@ fn serve_endless(alloc: Global, words: &[&str]) -> Result<(u8, Vec<u8>), AllocEr
     let mut out = Vec::new(alloc);
     let mut errors = Vec::new(alloc);
     let job = job(alloc, words);
-    let status = serve(alloc, &job, &mut file, &mut out, &mut Out::new(&mut errors));
+    let status = serve(
+        alloc,
+        &job,
+        &mut file,
+        &mut out,
+        &mut Out::new(&mut errors),
+        &mut Silent,
+    );
     unless_out_of_memory(status, errors.as_slice())?;
     Ok((status, out))
 }
@@ -150,6 +159,7 @@ fn stops_a_replay_without_memory(rt: HostRuntime) -> Result<(), Fail> {
             &mut file,
             &mut scarce,
             &mut Out::new(&mut errors),
+            &mut Silent,
         );
         if scarce.left > 0 {
             unless_out_of_memory(status, errors.as_slice())?;

@@ -3,6 +3,7 @@
 use crate::arguments::job;
 use crate::serving::serve;
 use crate::tests::{serve_file, with_room};
+use mls_cli_replay::Silent;
 use mls_cli_text::Out;
 use std::alloc::AllocError;
 use std::test::Fail;
@@ -177,7 +178,14 @@ fn keeps_the_status_of_an_unwritten_hint(rt: HostRuntime) -> Result<(), Fail> {
         let mut file = Some("{}".as_bytes());
         let mut out = Vec::new(alloc);
         let mut full = with_room(alloc, room)?;
-        let status = serve(alloc, &job, &mut file, &mut out, &mut Out::new(&mut full));
+        let status = serve(
+            alloc,
+            &job,
+            &mut file,
+            &mut out,
+            &mut Out::new(&mut full),
+            &mut Silent,
+        );
         if status == 3 {
             return Err(Fail::from(AllocError));
         }

@@ -4,6 +4,7 @@ use crate::arguments::job;
 use crate::serving::serve;
 use crate::tests::rows::{EXPECTED, EXPECTED_TEXT, JOIN, JOIN_TEXT};
 use crate::tests::{Broken, OUT_OF_MEMORY, serve_file, unless_out_of_memory, with_room};
+use mls_cli_replay::Silent;
 use mls_cli_text::{In, Out};
 use std::alloc::{AllocError, Global};
 use std::test::Fail;
@@ -205,6 +206,7 @@ fn stops_where_a_write_fails(rt: HostRuntime) -> Result<(), Fail> {
             &mut file,
             &mut Out::new(&mut full),
             &mut Out::new(&mut held),
+            &mut Silent,
         );
         unless_out_of_memory(status, held.as_slice())?;
         assert_eq!(rt; status, if room < text.len() { 3 } else { 1 });
@@ -226,7 +228,14 @@ fn prints_nothing_where_a_read_fails(rt: HostRuntime) -> Result<(), Fail> {
         let mut broken = Some(In::new(Broken {
             rest: &recording.as_bytes()[..given],
         }));
-        let status = serve(alloc, &job, &mut broken, &mut out, &mut Out::new(&mut held));
+        let status = serve(
+            alloc,
+            &job,
+            &mut broken,
+            &mut out,
+            &mut Out::new(&mut held),
+            &mut Silent,
+        );
         unless_out_of_memory(status, held.as_slice())?;
         assert_eq!(rt; status, 3);
         assert!(rt; out.is_empty());
@@ -243,7 +252,14 @@ fn stops_where_memory_is_wanting(rt: HostRuntime) -> Result<(), Fail> {
     let mut file = Some(JOIN.as_bytes());
     let mut out = Vec::new(alloc);
     let mut held = Vec::new(alloc);
-    let status = serve(alloc, &job, &mut file, &mut out, &mut Out::new(&mut held));
+    let status = serve(
+        alloc,
+        &job,
+        &mut file,
+        &mut out,
+        &mut Out::new(&mut held),
+        &mut Silent,
+    );
     if status == 3 {
         // The errors' own `Vec` may want memory too.
         assert!(rt; OUT_OF_MEMORY.as_bytes().starts_with(held.as_slice()));

@@ -4,6 +4,7 @@ use crate::arguments::job;
 use crate::serving::serve;
 use crate::tests::replay::{ADA, ALONE, BEGUN};
 use crate::tests::{OUT_OF_MEMORY, serve_file, unless_out_of_memory, with_room};
+use mls_cli_replay::Silent;
 use mls_cli_text::Out;
 use std::alloc::{AllocError, Global};
 use std::test::Fail;
@@ -222,6 +223,7 @@ fn stops_where_a_write_fails(rt: HostRuntime) -> Result<(), Fail> {
             &mut source,
             &mut Out::new(&mut full),
             &mut Out::new(&mut held),
+            &mut Silent,
         );
         unless_out_of_memory(status, held.as_slice())?;
         assert_eq!(rt; status, if room < text.len() { 3 } else { 1 });
@@ -244,7 +246,14 @@ fn stops_where_memory_is_wanting(rt: HostRuntime) -> Result<(), Fail> {
     let mut source = Some(file.as_bytes());
     let mut out = Vec::new(alloc);
     let mut held = Vec::new(alloc);
-    let status = serve(alloc, &job, &mut source, &mut out, &mut Out::new(&mut held));
+    let status = serve(
+        alloc,
+        &job,
+        &mut source,
+        &mut out,
+        &mut Out::new(&mut held),
+        &mut Silent,
+    );
     if status == 3 {
         // The errors' own `Vec` may want memory too.
         assert!(rt; OUT_OF_MEMORY.as_bytes().starts_with(held.as_slice()));

@@ -1,4 +1,4 @@
-use Rattle.std.proofs.Common.{refl}
+use Rattle.std.proofs.Common.{refl, length}
 use Rattle.mls_cli_text.specs.Page.{printout}
 use Rattle.mls_cli_text.proofs.Pages.{cut_ending, cut_lines}
 use Rattle.mls_cli_replay.specs.Actions.{run_all}
@@ -6,6 +6,7 @@ use Rattle.mls_cli_replay.specs.Replay.{actions_of, closing_text, entry_text, li
 use Rattle.mls_cli_replay.proofs.Closing.{closing, text_from}
 use Rattle.mls_cli_replay.proofs.Ending.{texts_lent}
 use Rattle.mls_cli_replay.proofs.Playing.{said}
+use Rattle.mls_cli_replay.proofs.Reporting.{reports_done, reports_front}
 use Rattle.mls_cli_replay.proofs.play.Goals as goal
 
 pub returns-in_err-met-clause-prints : goal.returns-in_err-met-clause-prints
@@ -32,3 +33,13 @@ returns-clause-prints g c =
     closing g.S.Suite.crypto items (lines_of c.args.recorded.now) _ (g.O.Output.contents c.play_actions.new.out) _ c.new-world.result c.play_actions.new.world c.in_ok-met.met c.in_ok-same.same c.status_of.result
     c.new-world.ensures (rw c.as_slice.ensures.value at c.in_ok-met.ensures.world) (rw c.as_slice.ensures.value at c.in_ok-met.ensures.met) (rw texts at c.in_ok-same.ensures.met) c.status_of.ensures.status
     (rw c.as_slice.ensures.value at c.in_ok-met.ensures.whole) (rw texts at c.in_ok-same.ensures.whole)
+
+pub returns-in_err-met-clause-reports : goal.returns-in_err-met-clause-reports
+returns-in_err-met-clause-reports g c =
+    reports_front g.P.Progress.reports (length c.args.recorded.now.actions.items) _ _ c.from_residual.result c.from_residual.ensures.0 (rw c.as_slice.ensures.value at c.in_err-met.ensures.reports)
+
+pub returns-in_err-same-clause-reports : goal.returns-in_err-same-clause-reports
+returns-in_err-same-clause-reports g c = reports_done g.P.Progress.reports (length c.args.recorded.now.actions.items) _ _ c.from_residual-in_err-same.result (rw c.as_slice.ensures.value at c.in_ok-met.ensures.reports)
+
+pub returns-clause-reports : goal.returns-clause-reports
+returns-clause-reports g c = rw c.as_slice.ensures.value at c.in_ok-met.ensures.reports

@@ -1,7 +1,8 @@
-use Rattle.std.proofs.Common.{inl}
+use Rattle.std.proofs.Common.{arith, inl, refl}
 use Rattle.std.proofs.KnownBytes.{Keeps-refl}
 use Rattle.serde_json.specs.View.{view}
 use Rattle.mls_cli_text.specs.Page.{Printout}
+use Rattle.mls_cli_replay.specs.Progress.{ReportsFirst}
 use Rattle.mls_cli_replay.specs.RecordedReplies.{IsRecordOf}
 use Rattle.mls_cli_replay.proofs.Viewing.{prints_as}
 use Rattle.mls_cli_replay.proofs.record_again.Goals as goal
@@ -13,3 +14,10 @@ returns-in-Ok-clause-prints g c =
 
 pub returns-in-Err-clause-prints : goal.returns-in-Err-clause-prints
 returns-in-Err-clause-prints g c = inl (Keeps-refl _)
+
+pub returns-in-Ok-clause-reports : goal.returns-in-Ok-clause-reports
+returns-in-Ok-clause-reports g c = rw c.as_slice.ensures.value at c.print_record.ensures.reports
+
+pub returns-in-Err-clause-reports : goal.returns-in-Err-clause-reports
+unfolding ReportsFirst
+returns-in-Err-clause-reports g c = (0, omega arith, refl)

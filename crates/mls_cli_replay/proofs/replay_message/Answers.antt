@@ -1,5 +1,6 @@
 use Rattle.mls_cli_replay.proofs.PrintLaws.{prints_it}
 use Rattle.mls_cli_replay.proofs.Messages.{is_message, refusal_prints}
+use Rattle.mls_cli_replay.proofs.Reporting.{refusal_reported, run_reported}
 use Rattle.mls_cli_replay.proofs.replay_message.Goals as goal
 
 pub returns-in-Ok-clause-prints : goal.returns-in-Ok-clause-prints
@@ -10,3 +11,10 @@ returns-in-Ok-clause-prints g c =
 pub returns-in-Err-clause-prints : goal.returns-in-Err-clause-prints
 returns-in-Err-clause-prints g c =
     refusal_prints g.S.Suite.crypto c.args.number c.args.file.now c.in-Err.error _ _ c.print_error.result c.in-Err.ensures c.print_error.ensures.prints
+
+pub returns-in-Ok-clause-reports : goal.returns-in-Ok-clause-reports
+returns-in-Ok-clause-reports g c = run_reported g.P.Progress.reports g.S.Suite.crypto c.args.file.now c.in-Ok.recorded _ _ c.print_message.result c.in-Ok.ensures (rw c.as_slice.ensures.value at c.print_message.ensures.reports)
+
+pub returns-in-Err-clause-reports : goal.returns-in-Err-clause-reports
+returns-in-Err-clause-reports g c =
+    refusal_reported g.P.Progress.reports g.S.Suite.crypto c.args.file.now c.in-Err.error _ _ _ c.print_error.result c.in-Err.ensures c.print_error.ensures.prints

@@ -5,6 +5,7 @@ use Rattle.mls_cli_replay.specs.Quiet.{quiet_page_of}
 use Rattle.mls_cli_replay.specs.Replay.{entry_text}
 use Rattle.mls_cli_replay.proofs.PrintLaws.{prints_it}
 use Rattle.mls_cli_replay.proofs.Viewing.{of_recording, refusal_printed}
+use Rattle.mls_cli_replay.proofs.Reporting.{refusal_reported, run_reported}
 use Rattle.mls_cli_replay.proofs.replay_quietly.Goals as goal
 
 pub returns-in-Ok-clause-prints : goal.returns-in-Ok-clause-prints
@@ -17,3 +18,10 @@ pub returns-in-Err-clause-prints : goal.returns-in-Err-clause-prints
 returns-in-Err-clause-prints g c =
     refusal_printed (λ (r : RecordedRun) (p : Printout). p ≡ printout entry_text (quiet_page_of g.S.Suite.crypto r)) g.S.Suite.crypto c.args.file.now c.in-Err.error _ _ c.print_error.result
     c.in-Err.ensures c.print_error.ensures.prints
+
+pub returns-in-Ok-clause-reports : goal.returns-in-Ok-clause-reports
+returns-in-Ok-clause-reports g c = run_reported g.P.Progress.reports g.S.Suite.crypto c.args.file.now c.in-Ok.recorded _ _ c.play_quietly.result c.in-Ok.ensures c.play_quietly.ensures.reports
+
+pub returns-in-Err-clause-reports : goal.returns-in-Err-clause-reports
+returns-in-Err-clause-reports g c =
+    refusal_reported g.P.Progress.reports g.S.Suite.crypto c.args.file.now c.in-Err.error _ _ _ c.print_error.result c.in-Err.ensures c.print_error.ensures.prints

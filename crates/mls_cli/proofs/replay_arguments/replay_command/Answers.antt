@@ -1,5 +1,6 @@
+use Rattle.std.proofs.Common.{◌∙◌, ap}
 use Rattle.mls_cli.specs.ReplayArguments.{with_picture_rules}
-use Rattle.mls_cli.proofs.Adding.{app_is, local_is, then_app}
+use Rattle.mls_cli.proofs.Adding.{app_is, last_app, last_local, local_is}
 use Rattle.mls_cli.proofs.replay_arguments.replay_command.Goals as goal
 
 pub returns-clause-app : goal.returns-clause-app
@@ -9,7 +10,8 @@ returns-clause-app c =
     let three = app_is c.in_ok-with_tree.ensures c.number_arg-tree.ensures.local two c.number_arg-tree.ensures.rule in
     let four = app_is c.in_ok-with_quiet.ensures c.flag_arg-quiet.ensures.local three c.flag_arg-quiet.ensures.rule in
     let five = app_is c.in_ok-with_record.ensures c.flag_arg-record.ensures.local four c.flag_arg-record.ensures.rule in
-    then_app c.with_picture.result with_picture_rules c.with_picture.ensures.app five
+    let six = c.in_ok-with_all.ensures.app ∙ ap with_picture_rules five in
+    last_app c.arg-6.result c.in_ok-with_all.with_all c.flag_arg-progress.result c.arg-6.ensures c.flag_arg-progress.ensures.local six c.flag_arg-progress.ensures.rule
 
 pub returns-clause-local : goal.returns-clause-local
 returns-clause-local c =
@@ -17,4 +19,5 @@ returns-clause-local c =
     let two = local_is c.in_ok-with_message.ensures c.number_arg-message.ensures.local one in
     let three = local_is c.in_ok-with_tree.ensures c.number_arg-tree.ensures.local two in
     let four = local_is c.in_ok-with_quiet.ensures c.flag_arg-quiet.ensures.local three in
-    c.with_picture.ensures.local (local_is c.in_ok-with_record.ensures c.flag_arg-record.ensures.local four)
+    let five = local_is c.in_ok-with_record.ensures c.flag_arg-record.ensures.local four in
+    last_local c.arg-6.result c.in_ok-with_all.with_all c.flag_arg-progress.result c.arg-6.ensures c.flag_arg-progress.ensures.local (c.in_ok-with_all.ensures.local five)

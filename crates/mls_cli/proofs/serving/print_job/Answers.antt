@@ -5,3 +5,7 @@ use Rattle.mls_cli.proofs.serving.print_job.Goals as goal
 pub returns-in-Ok-clause-prints : goal.returns-in-Ok-clause-prints
 returns-in-Ok-clause-prints g c =
     prints_read _ c.args.job.now _ _ _ _ (Ok c.in-Ok.status) c.as_slice.ensures.value c.in_ok-text.ensures.text c.in-Ok.ensures.prints
+
+pub returns-in-Ok-clause-reports : goal.returns-in-Ok-clause-reports
+returns-in-Ok-clause-reports g c =
+    (c.in_ok-text.text.items, c.in_ok-text.ensures.text, rw c.as_slice.ensures.value at c.in-Ok.ensures.reports)

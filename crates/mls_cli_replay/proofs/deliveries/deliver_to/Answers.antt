@@ -1,6 +1,6 @@
 use Rattle.std.proofs.Common.{arith, sym, subst}
 use Rattle.mls_cli_replay.specs.declared.deliveries.Tally.{Tally}
-use Rattle.mls_cli_replay.proofs.Delivering.{Delivered, delivered_all, delivered_next, delivered_none, delivered_part, room}
+use Rattle.mls_cli_replay.proofs.Delivering.{Delivered, delivered_all, delivered_next, delivered_none, delivered_part}
 use Rattle.mls_cli_replay.proofs.Playing.{on_err}
 use Rattle.mls_cli_replay.proofs.deliveries.deliver_to.Goals as goal
 

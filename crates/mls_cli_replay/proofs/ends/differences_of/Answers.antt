@@ -1,4 +1,4 @@
-use Rattle.std.proofs.Common.{◌≡◌, ◌∙◌, ap, sym, subst, List, arith, map, max, length, string_bytes}
+use Rattle.std.proofs.Common.{◌∙◌, ap, sym, subst, List, arith, map, string_bytes}
 use Rattle.std.proofs.lemmas.List.{length-map}
 use Rattle.mls_cli_replay.specs.declared.line.ReplayLine.{ReplayLine}
 use Rattle.mls_cli_replay.specs.Replay.{differences}

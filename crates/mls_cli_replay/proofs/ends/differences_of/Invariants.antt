@@ -1,4 +1,4 @@
-use Rattle.std.proofs.Common.{map, string_bytes, List, ℕ}
+use Rattle.std.proofs.Common.{map, string_bytes}
 use Rattle.mls_cli_replay.proofs.Ending.{Compared}
 use Rattle.mls_cli_replay.proofs.ends.differences_of.Given as goal
 

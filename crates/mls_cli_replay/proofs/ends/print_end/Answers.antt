@@ -1,10 +1,10 @@
-use Rattle.std.proofs.Common.{◌≡◌, ◌∙◌, ap, sym, subst, List, ℕ}
+use Rattle.std.proofs.Common.{sym, subst}
 use Rattle.std.proofs.KnownBytes.{Appends-trans}
 use Rattle.std.specs.Io.KnownBytes.{Appends}
 use Rattle.std.specs.List.{flat_map}
 use Rattle.mls_cli_text.specs.InputOutput.{AppendsPart}
 use Rattle.mls_cli_text.proofs.Pieces.{nothing_yet, part_behind, part_of_front}
-use Rattle.mls_cli_replay.specs.Replay.{closing_text, entry_text, final_entries, members_text, texts_of}
+use Rattle.mls_cli_replay.specs.Replay.{entry_text, final_entries, members_text, texts_of}
 use Rattle.mls_cli_replay.proofs.Ending.{closing_is, lines_say, silent}
 use Rattle.mls_cli_replay.proofs.Playing.{on_err}
 use Rattle.mls_cli_replay.proofs.ends.print_end.Goals as goal

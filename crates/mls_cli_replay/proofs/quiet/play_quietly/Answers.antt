@@ -1,4 +1,4 @@
-use Rattle.std.proofs.Common.{◌≡◌, map, refl, subst, sym}
+use Rattle.std.proofs.Common.{◌≡◌, map, subst, sym, length}
 use Rattle.std.specs.List.{flat_map}
 use Rattle.std.proofs.KnownBytes.{Appends-trans}
 use Rattle.std.specs.Io.KnownBytes.{Appends}
@@ -11,6 +11,7 @@ use Rattle.mls_cli_replay.specs.declared.line.ReplayLine.{ReplayLine}
 use Rattle.mls_cli_replay.proofs.Ending.{texts_lent}
 use Rattle.mls_cli_replay.proofs.FoundMessages.{nothing_prints}
 use Rattle.mls_cli_replay.proofs.Quietly.{quiet_from, quiet_status, quiet_text}
+use Rattle.mls_cli_replay.proofs.Reporting.{reports_done, reports_front}
 use Rattle.mls_cli_replay.proofs.quiet.play_quietly.Goals as goal
 
 pub returns-in_err-unmet-clause-prints : goal.returns-in_err-unmet-clause-prints
@@ -62,3 +63,16 @@ returns-clause-prints g c =
       quiet_status crypto items lines w v ls c.is_empty.result c.in_ok-same.same c.status_of.result c.new-world.ensures is said
           (rw c.as_slice-lines.ensures.value at c.is_empty.ensures) (rw texts at c.in_ok-same.ensures.met) c.status_of.ensures.status,
     )
+
+pub returns-in_err-unmet-clause-reports : goal.returns-in_err-unmet-clause-reports
+returns-in_err-unmet-clause-reports g c =
+    reports_front g.P.Progress.reports (length c.args.recorded.now.actions.items) _ _ c.from_residual.result c.from_residual.ensures.0 (rw c.as_slice.ensures.value at c.in_err-unmet.ensures.reports)
+
+pub returns-in_err-print_lines-clause-reports : goal.returns-in_err-print_lines-clause-reports
+returns-in_err-print_lines-clause-reports g c = reports_done g.P.Progress.reports (length c.args.recorded.now.actions.items) _ _ c.from_residual-in_err-print_lines.result (rw c.as_slice.ensures.value at c.in_ok-unmet.ensures.reports)
+
+pub returns-in_err-same-clause-reports : goal.returns-in_err-same-clause-reports
+returns-in_err-same-clause-reports g c = reports_done g.P.Progress.reports (length c.args.recorded.now.actions.items) _ _ c.from_residual-in_err-same.result (rw c.as_slice.ensures.value at c.in_ok-unmet.ensures.reports)
+
+pub returns-clause-reports : goal.returns-clause-reports
+returns-clause-reports g c = rw c.as_slice.ensures.value at c.in_ok-unmet.ensures.reports

@@ -1,24 +1,45 @@
-use Rattle.std.proofs.Common.{List, arith, subst, sym}
+use Rattle.std.proofs.Common.{List, arith, length, subst, sym}
 use Rattle.std.specs.Global.{Global}
 use Rattle.std.specs.declared.string.String.{String}
+use Rattle.mls_cli_replay.proofs.Reporting.{reported_all, reported_next, reported_nothing, reports_part}
 use Rattle.mls_cli_replay.proofs.Wording.{Replied, replied_end, replied_nothing, replied_step}
 use Rattle.mls_cli_replay.proofs.record.collect_replies.Goals as goal
 
-pub loop-one-init : goal.loop-one-init
-loop-one-init g c =
-    subst (λ (ts : List (String Global)). Replied g.S.Suite.crypto c.args.world.now c.args.recorded.now c.args.world.now ts c.args.recorded.now) (sym c.new-texts.ensures.items)
-    (replied_nothing g.S.Suite.crypto c.args.world.now c.args.recorded.now)
+pub loop-action-init : goal.loop-action-init
+loop-action-init g c = record {
+  replied = subst (λ (ts : List (String Global)). Replied g.S.Suite.crypto c.args.world.now c.args.recorded.now c.args.world.now ts c.args.recorded.now) (sym c.new-texts.ensures.items)
+      (replied_nothing g.S.Suite.crypto c.args.world.now c.args.recorded.now);
+  reported = reported_nothing g.P.Progress.reports (length c.args.recorded.now) c.args.progress.now;
+}
 
-pub loop-one-preserved : goal.loop-one-preserved
-loop-one-preserved g c =
-    replied_step g.S.Suite.crypto c.args.world.now c.args.recorded.now c.loop-one.one-index c.loop-one.world c.do_action.new.world c.loop-one.texts.items c.push.new.self.items
-    c.in_ok-outcome_text.field-0 c.in_ok-outcome.outcome c.one-item.result c.loop-one-test.true c.one-item.is c.loop-one.invariant
-    c.in_ok-outcome.ensures.world c.in_ok-outcome.ensures.outcome c.in_ok-outcome_text.ensures c.in_ok-push.ensures.items
+pub returns-in_err-outcome-clause-reports : goal.returns-in_err-outcome-clause-reports
+returns-in_err-outcome-clause-reports g c =
+    reports_part g.P.Progress.reports (length c.args.recorded.now) c.loop-action.action _ _ c.from_residual.result c.from_residual.ensures.0 c.loop-action.invariant.reported
+
+pub returns-in_err-outcome_text-clause-reports : goal.returns-in_err-outcome_text-clause-reports
+returns-in_err-outcome_text-clause-reports g c =
+    reports_part g.P.Progress.reports (length c.args.recorded.now) c.loop-action.action _ _ c.from_residual-in_err-outcome_text.result c.from_residual-in_err-outcome_text.ensures.0 c.loop-action.invariant.reported
+
+pub returns-in_err-push-clause-reports : goal.returns-in_err-push-clause-reports
+returns-in_err-push-clause-reports g c =
+    reports_part g.P.Progress.reports (length c.args.recorded.now) c.loop-action.action _ _ c.from_residual-in_err-push.result c.from_residual-in_err-push.ensures.0 c.loop-action.invariant.reported
+
+pub loop-action-preserved : goal.loop-action-preserved
+loop-action-preserved g c = record {
+  replied = replied_step g.S.Suite.crypto c.args.world.now c.args.recorded.now c.loop-action.action c.loop-action.world c.do_action.new.world c.loop-action.texts.items c.push.new.self.items
+      c.in_ok-outcome_text.field-0 c.in_ok-outcome.outcome c.index-recorded-action.result c.loop-action-test.true c.index-recorded-action.is c.loop-action.invariant.replied
+      c.in_ok-outcome.ensures.world c.in_ok-outcome.ensures.outcome c.in_ok-outcome_text.ensures c.in_ok-push.ensures.items;
+  reported = reported_next g.P.Progress.reports (length c.args.recorded.now) c.loop-action.action _ _ _ c.loop-action-test.true c.loop-action.invariant.reported c.report.ensures;
+}
 
 pub returns-clause-world : goal.returns-clause-world
 returns-clause-world g c =
-    (replied_end g.S.Suite.crypto c.args.world.now c.args.recorded.now c.loop-one.one-index c.loop-one.world c.loop-one.texts.items (omega arith) c.loop-one.invariant).world
+    (replied_end g.S.Suite.crypto c.args.world.now c.args.recorded.now c.loop-action.action c.loop-action.world c.loop-action.texts.items (omega arith) c.loop-action.invariant.replied).world
 
 pub returns-clause-texts : goal.returns-clause-texts
 returns-clause-texts g c =
-    (replied_end g.S.Suite.crypto c.args.world.now c.args.recorded.now c.loop-one.one-index c.loop-one.world c.loop-one.texts.items (omega arith) c.loop-one.invariant).said
+    (replied_end g.S.Suite.crypto c.args.world.now c.args.recorded.now c.loop-action.action c.loop-action.world c.loop-action.texts.items (omega arith) c.loop-action.invariant.replied).said
+
+pub returns-clause-reports : goal.returns-clause-reports
+returns-clause-reports g c =
+    reported_all g.P.Progress.reports (length c.args.recorded.now) c.loop-action.action _ _ (omega arith) c.loop-action.invariant.reported

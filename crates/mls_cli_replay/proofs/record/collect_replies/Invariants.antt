@@ -1,6 +1,10 @@
-use Rattle.std.proofs.Common.{drop}
+use Rattle.std.proofs.Common.{drop, length}
+use Rattle.mls_cli_replay.proofs.Reporting.{Reported}
 use Rattle.mls_cli_replay.proofs.Wording.{Replied}
 use Rattle.mls_cli_replay.proofs.record.collect_replies.Given as goal
 
-abbrev pub invariant-loop-one : goal.invariant-loop-one
-invariant-loop-one g l = Replied g.S.Suite.crypto l.initial.world l.recorded l.world l.texts.items (drop l.one-index l.recorded)
+abbrev pub invariant-loop-action : goal.invariant-loop-action
+invariant-loop-action g l = record {
+  replied : Replied g.S.Suite.crypto l.initial.world l.recorded l.world l.texts.items (drop l.action l.recorded);
+  reported : Reported g.P.Progress.reports (length l.recorded) l.action l.initial.progress l.progress;
+}

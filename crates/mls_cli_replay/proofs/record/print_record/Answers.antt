@@ -1,4 +1,4 @@
-use Rattle.std.proofs.Common.{◌≡◌, ◌∙◌, ap, ap₂, List, ℕ}
+use Rattle.std.proofs.Common.{◌∙◌, ap, ap₂, List, ℕ, length}
 use Rattle.serde_json.specs.View.{view}
 use Rattle.mls_model.specs.World.{World}
 use Rattle.mls_cli_record.specs.Record.{record_of}
@@ -7,6 +7,7 @@ use Rattle.mls_cli_replay.specs.RecordedReplies.{words_of_members}
 use Rattle.mls_cli_replay.specs.Replay.{actions_of}
 use Rattle.mls_cli_replay.proofs.Viewing.{kept_one, record_printed}
 use Rattle.mls_cli_replay.proofs.Wording.{texts_from}
+use Rattle.mls_cli_replay.proofs.Reporting.{reports_done, reports_front}
 use Rattle.mls_cli_replay.proofs.record.print_record.Goals as goal
 
 pub returns-in_err-replies-clause-prints : goal.returns-in_err-replies-clause-prints
@@ -25,3 +26,13 @@ returns-clause-prints g c =
     record_printed crypto (view c.args.value) _ rs c.record_page-page.result _ _ c.print_made_page.result
     (ap₂ (λ (rs ls : List (List ℕ)). record_of rs ls (view c.args.value)) replies lines)
     (rw (c.as_slice.ensures.value, c.as_slice-2.ensures.value) at c.record_page-page.ensures) c.print_made_page.ensures.prints
+
+pub returns-in_err-replies-clause-reports : goal.returns-in_err-replies-clause-reports
+returns-in_err-replies-clause-reports g c =
+    reports_front g.P.Progress.reports (length c.args.recorded.now) _ _ c.from_residual.result c.from_residual.ensures.0 c.in_err-replies.ensures.reports
+
+pub returns-in_err-lines-clause-reports : goal.returns-in_err-lines-clause-reports
+returns-in_err-lines-clause-reports g c = reports_done g.P.Progress.reports (length c.args.recorded.now) _ _ c.from_residual-in_err-lines.result c.in_ok-replies.ensures.reports
+
+pub returns-clause-reports : goal.returns-clause-reports
+returns-clause-reports g c = reports_done g.P.Progress.reports (length c.args.recorded.now) _ _ c.print_made_page.result c.in_ok-replies.ensures.reports

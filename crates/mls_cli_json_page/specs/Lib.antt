@@ -1,0 +1,2 @@
+pub mod JsonPage
+pub mod JsonLaws

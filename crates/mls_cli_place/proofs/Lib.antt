@@ -1,0 +1,4 @@
+pub mod Firsts
+pub mod Inputs
+pub mod Items
+pub mod Members

@@ -1,0 +1,15 @@
+pub mod Walk
+pub mod Leaf
+pub mod Tree
+pub mod Group
+pub mod Message
+pub mod Place
+pub mod File
+pub mod Text
+pub mod TextLaws
+pub mod TreePlace
+pub mod Finding
+pub mod LeafFinding
+pub mod TreeFinding
+pub mod GroupFinding
+pub mod MessageFinding

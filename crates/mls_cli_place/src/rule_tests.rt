@@ -1,0 +1,96 @@
+//! Where ratchet trees break rules that are asked of each member or of each node alone.
+
+use super::*;
+use mls_cli_text::Printed;
+use mls_leaf::Codec;
+use mls_suite::Glass;
+use mls_tree::PublicTree;
+use mls_types::RatchetTree;
+use std::alloc::Global;
+use std::test::Fail;
+
+/// The nodes of a text in hex.
+fn nodes_of(alloc: Global, hex_text: &str) -> Result<RatchetTree, Fail> {
+    let bytes = hex::decode(alloc, hex_text)?;
+    Ok(RatchetTree::decode(alloc, bytes.as_slice())?)
+}
+
+#[test]
+fn finds_members_that_lack_a_capability(rt: HostRuntime) -> Result<(), Fail> {
+    let alloc = rt.alloc();
+    let table = [
+        (
+            "40770101204b4b4b4b4b4b4b4b4b4b4b4b4b4b4b4b4b4b4b4b4b4b4b4b4b4b4b4b4b4b4b4b0153000102\
+             696402000102f0010000020001020003736967000101204b4b4b4b4b4b4b4b4b4b4b4b4b4b4b4b4b4b4b\
+             4b4b4b4b4b4b4b4b4b4b4b4b4b0153000102696402000102f0010000020001020003736967",
+            "None",
+        ),
+        (
+            "40770101204b4b4b4b4b4b4b4b4b4b4b4b4b4b4b4b4b4b4b4b4b4b4b4b4b4b4b4b4b4b4b4b0153000102\
+             696402000102f0010000020001020003736967000101204b4b4b4b4b4b4b4b4b4b4b4b4b4b4b4b4b4b4b\
+             4b4b4b4b4b4b4b4b4b4b4b4b4b015300010269640200010200010000020001020003736967",
+            "Some(1)",
+        ),
+        (
+            "40770101204b4b4b4b4b4b4b4b4b4b4b4b4b4b4b4b4b4b4b4b4b4b4b4b4b4b4b4b4b4b4b4b0153000102\
+             696402000202f0010000020001020003736967000101204b4b4b4b4b4b4b4b4b4b4b4b4b4b4b4b4b4b4b\
+             4b4b4b4b4b4b4b4b4b4b4b4b4b015300010269640200010200010000020001020003736967",
+            "Some(0)",
+        ),
+    ];
+    for (input, wanted) in table {
+        let tree = PublicTree::from_nodes(nodes_of(alloc, input)?.into_vec())?;
+        let text = format!(in alloc; "{:?}", first_incapable::<Glass>(&tree))?;
+        assert_eq!(rt; text.as_str(), wanted, "for {input}");
+    }
+    Ok(())
+}
+
+/// The first nodes whose key isn't fit, and that stand out of their places.
+fn first_nodes(alloc: Global, nodes: &RatchetTree) -> Result<String, Fail> {
+    let unfit = first_unfit::<Glass>(nodes.as_slice());
+    let misplaced = first_misplaced(nodes.as_slice());
+    Ok(format!(in alloc; "{unfit:?} {misplaced:?}")?)
+}
+
+#[test]
+fn finds_nodes(rt: HostRuntime) -> Result<(), Fail> {
+    let alloc = rt.alloc();
+    let table = [
+        ("06010201700000", "Some(0) Some(0)"),
+        (
+            "40760101204b4b4b4b4b4b4b4b4b4b4b4b4b4b4b4b4b4b4b4b4b4b4b4b4b4b4b4b4b4b4b4b0153000102\
+             696402000102f00100000200010200037369670101204b4b4b4b4b4b4b4b4b4b4b4b4b4b4b4b4b4b4b4b\
+             4b4b4b4b4b4b4b4b4b4b4b4b0153000102696402000102f0010000020001020003736967",
+            "None Some(1)",
+        ),
+        (
+            "40760101204b4b4b4b4b4b4b4b4b4b4b4b4b4b4b4b4b4b4b4b4b4b4b4b4b4b4b4b4b4b4b4b0153000102\
+             696402000102f00100000200010200037369670001011f4b4b4b4b4b4b4b4b4b4b4b4b4b4b4b4b4b4b4b\
+             4b4b4b4b4b4b4b4b4b4b4b4b0153000102696402000102f0010000020001020003736967",
+            "Some(2) None",
+        ),
+        (
+            "2b000102204b4b4b4b4b4b4b4b4b4b4b4b4b4b4b4b4b4b4b4b4b4b4b4b4b4b4b4b4b4b4b4b0000010200\
+             0000",
+            "Some(2) Some(2)",
+        ),
+        ("03000000", "None None"),
+    ];
+    for (input, wanted) in table {
+        let nodes = nodes_of(alloc, input)?;
+        let text = first_nodes(alloc, &nodes)?;
+        assert_eq!(rt; text.as_str(), wanted, "for {input}");
+    }
+    Ok(())
+}
+
+#[test]
+fn prints_places_in_trees(rt: HostRuntime) -> Result<(), Fail> {
+    let alloc = rt.alloc();
+    let node = String::from_utf8(TreePlace::Node(131_070).text_bytes(alloc)?)?;
+    assert_eq!(rt; node.as_str(), "node: 131070\n");
+    let leaf = String::from_utf8(TreePlace::Leaf(65_535).text_bytes(alloc)?)?;
+    assert_eq!(rt; leaf.as_str(), "leaf: 65535\n");
+    Ok(())
+}

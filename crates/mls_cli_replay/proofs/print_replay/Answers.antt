@@ -1,0 +1,19 @@
+use Rattle.mls_cli_replay.proofs.PrintLaws.{prints_it}
+use Rattle.mls_cli_replay.proofs.Closing.{is_replay, refusal_prints}
+use Rattle.mls_cli_replay.proofs.Reporting.{refusal_reported, run_reported}
+use Rattle.mls_cli_replay.proofs.print_replay.Goals as goal
+
+pub returns-in-Ok-clause-prints : goal.returns-in-Ok-clause-prints
+returns-in-Ok-clause-prints g c =
+    prints_it _ _ _ c.play.result _ (is_replay g.S.Suite.crypto c.args.file.now c.in-Ok.recorded c.in-Ok.ensures) c.play.ensures.prints
+
+pub returns-in-Err-clause-prints : goal.returns-in-Err-clause-prints
+returns-in-Err-clause-prints g c =
+    refusal_prints g.S.Suite.crypto c.args.file.now c.in-Err.error _ _ c.print_error.result c.in-Err.ensures c.print_error.ensures.prints
+
+pub returns-in-Ok-clause-reports : goal.returns-in-Ok-clause-reports
+returns-in-Ok-clause-reports g c = run_reported g.P.Progress.reports g.S.Suite.crypto c.args.file.now c.in-Ok.recorded _ _ c.play.result c.in-Ok.ensures c.play.ensures.reports
+
+pub returns-in-Err-clause-reports : goal.returns-in-Err-clause-reports
+returns-in-Err-clause-reports g c =
+    refusal_reported g.P.Progress.reports g.S.Suite.crypto c.args.file.now c.in-Err.error _ _ _ c.print_error.result c.in-Err.ensures c.print_error.ensures.prints
