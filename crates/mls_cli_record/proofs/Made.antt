@@ -11,7 +11,7 @@ use Rattle.serde_json.specs.Read.{max_depth, read}
 use Rattle.serde_json.specs.Written.{IsInOrder}
 use Rattle.serde_json.specs.View.{view, items_of, items_view}
 use Rattle.serde_json.specs.declared.value.Value.{Value}
-use Rattle.mls_cli_record.specs.Record.{IsTextOf, expecting, expecting_each, text_items}
+use Rattle.mls_cli_record.specs.Record.{IsTextOf, event_with_reply, events_with_replies, text_items}
 
 -- items before others
 abbrev pub joined : List Data → Items → Items
@@ -28,34 +28,34 @@ none_behind (x ∷ xs) = ap (item x) (none_behind xs)
 
 -- ---- events
 
-none_expected : (k : ℕ) (replies : List (List ℕ)) → expecting_each k replies no_items ≡ no_items
-unfolding expecting_each
+none_expected : (k : ℕ) (replies : List (List ℕ)) → events_with_replies k replies no_items ≡ no_items
+unfolding events_with_replies
 none_expected k replies = refl
 
-one_expected : (k : ℕ) (replies : List (List ℕ)) (d : Data) (ds : Items) → expecting_each k replies (item d ds) ≡ item (expecting (slice_get replies k) d) (expecting_each (k + 1) replies ds)
-unfolding expecting_each
+one_expected : (k : ℕ) (replies : List (List ℕ)) (d : Data) (ds : Items) → events_with_replies k replies (item d ds) ≡ item (event_with_reply (slice_get replies k) d) (events_with_replies (k + 1) replies ds)
+unfolding events_with_replies
 one_expected k replies d ds = refl
 
 -- the events made so far, and those that are left
-abbrev pub Expecting : List (List ℕ) → List Value → ℕ → List Value → Type 0
-Expecting replies events k list = joined (map view list) (expecting_each k replies (items_view (drop k events))) ≡ expecting_each 0 replies (items_view events)
+abbrev pub Events : List (List ℕ) → List Value → ℕ → List Value → Type 0
+Events replies events k list = joined (map view list) (events_with_replies k replies (items_view (drop k events))) ≡ events_with_replies 0 replies (items_view events)
 
-pub expecting_next : (replies : List (List ℕ)) (events : List Value) (k : ℕ) (event made : Value) (list new : List Value) → k < length events → event ≡ get_or events k event
-    → view made ≡ expecting (slice_get replies k) (view event) → new ≡ list ++ (made ∷ []) → Expecting replies events k list → Expecting replies events (k + 1) new
-expecting_next replies events k event made list new lt is made_is grew so =
+pub events_next : (replies : List (List ℕ)) (events : List Value) (k : ℕ) (event made : Value) (list new : List Value) → k < length events → event ≡ get_or events k event
+    → view made ≡ event_with_reply (slice_get replies k) (view event) → new ≡ list ++ (made ∷ []) → Events replies events k list → Events replies events (k + 1) new
+events_next replies events k event made list new lt is made_is grew so =
     let split : drop k events ≡ event ∷ drop (suc k) events = drop-cons events k event lt ∙ ap (λ (v : Value). v ∷ drop (suc k) events) (sym is) in
-    ap (λ (xs : List Value). joined (map view xs) (expecting_each (k + 1) replies (items_view (drop (k + 1) events)))) grew
-    ∙ ap (λ (ds : List Data). joined ds (expecting_each (k + 1) replies (items_view (drop (k + 1) events)))) (map-append view list (made ∷ []))
-    ∙ one_behind (map view list) (view made) (expecting_each (k + 1) replies (items_view (drop (k + 1) events)))
-    ∙ ap (λ (n : ℕ). joined (map view list) (item (view made) (expecting_each (k + 1) replies (items_view (drop n events))))) (add-one k)
-    ∙ ap (λ (d : Data). joined (map view list) (item d (expecting_each (k + 1) replies (items_view (drop (suc k) events))))) made_is
+    ap (λ (xs : List Value). joined (map view xs) (events_with_replies (k + 1) replies (items_view (drop (k + 1) events)))) grew
+    ∙ ap (λ (ds : List Data). joined ds (events_with_replies (k + 1) replies (items_view (drop (k + 1) events)))) (map-append view list (made ∷ []))
+    ∙ one_behind (map view list) (view made) (events_with_replies (k + 1) replies (items_view (drop (k + 1) events)))
+    ∙ ap (λ (n : ℕ). joined (map view list) (item (view made) (events_with_replies (k + 1) replies (items_view (drop n events))))) (add-one k)
+    ∙ ap (λ (d : Data). joined (map view list) (item d (events_with_replies (k + 1) replies (items_view (drop (suc k) events))))) made_is
     ∙ ap (joined (map view list)) (sym (one_expected k replies (view event) (items_view (drop (suc k) events))))
-    ∙ ap (λ (vs : List Value). joined (map view list) (expecting_each k replies (items_view vs))) (sym split)
+    ∙ ap (λ (vs : List Value). joined (map view list) (events_with_replies k replies (items_view vs))) (sym split)
     ∙ so
 
-pub expecting_all : (replies : List (List ℕ)) (events : List Value) (k : ℕ) (list : List Value) → length events ≤ k → Expecting replies events k list → items_view list ≡ expecting_each 0 replies (items_view events)
-expecting_all replies events k list le so =
-    sym (ap (λ (vs : List Value). joined (map view list) (expecting_each k replies (items_view vs))) (drop_all k events le)
+pub events_all : (replies : List (List ℕ)) (events : List Value) (k : ℕ) (list : List Value) → length events ≤ k → Events replies events k list → items_view list ≡ events_with_replies 0 replies (items_view events)
+events_all replies events k list le so =
+    sym (ap (λ (vs : List Value). joined (map view list) (events_with_replies k replies (items_view vs))) (drop_all k events le)
     ∙ ap (joined (map view list)) (none_expected k replies)
     ∙ none_behind (map view list))
     ∙ so

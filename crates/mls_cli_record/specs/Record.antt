@@ -20,20 +20,20 @@ with_member key value (array ds) = array ds
 with_member key value (object ms) = object (put key value ms)
 
 -- an event that expects this reply, where there is one
-abbrev pub expecting : Option (List ℕ) → Data → Data
-expecting None d = d
-expecting (Some reply) d = with_member (codes "expect") (string reply) d
+abbrev pub event_with_reply : Option (List ℕ) → Data → Data
+event_with_reply None d = d
+event_with_reply (Some reply) d = with_member (codes "expect") (string reply) d
 
 -- the events from number k on, each with the reply of its number
-unfoldable pub expecting_each : ℕ → List (List ℕ) → Items → Items
-expecting_each k replies no_items = no_items
-expecting_each k replies (item d ds) =
-    item (expecting (slice_get replies k) d) (expecting_each (k + 1) replies ds)
+unfoldable pub events_with_replies : ℕ → List (List ℕ) → Items → Items
+events_with_replies k replies no_items = no_items
+events_with_replies k replies (item d ds) =
+    item (event_with_reply (slice_get replies k) d) (events_with_replies (k + 1) replies ds)
 
 abbrev pub with_events : List (List ℕ) → Option Items → Data → Data
 with_events replies None d = d
 with_events replies (Some events) d =
-    with_member (codes "events") (array (expecting_each 0 replies events)) d
+    with_member (codes "events") (array (events_with_replies 0 replies events)) d
 
 -- a recording whose events expect these replies
 abbrev pub with_replies : List (List ℕ) → Data → Data

@@ -5,7 +5,7 @@ ghost use Rattle.std.specs.Prelude.{◌≡◌, codes, option_map, map, string_by
 ghost use Rattle.serde_json.specs.Data.{string};
 ghost use Rattle.serde_json.specs.View.{view, items_view};
 ghost use Rattle.mls_cli_json.specs.Json.{number_at};
-ghost use Rattle.mls_cli_record.specs.Record.{IsTextOf, expecting, expecting_each, has_version, record_of, reply_at, text_items, with_lines, with_member, with_replies};
+ghost use Rattle.mls_cli_record.specs.Record.{IsTextOf, event_with_reply, events_with_replies, has_version, record_of, reply_at, text_items, with_lines, with_member, with_replies};
 
 use mls_cli_json::{items_at, u64_at};
 use serde_json::{Value, put};
@@ -35,9 +35,9 @@ fn reply_at(replies: &[String], number: usize) -> Option<&str>
 }
 
 /// Copies an event, with the reply that it should have, where there is one.
-fn expecting(alloc: Global, event: &Value, reply: Option<&str>) -> Result<Value, AllocError>
+fn event_with_reply(alloc: Global, event: &Value, reply: Option<&str>) -> Result<Value, AllocError>
     ensures { IfOk result (λ v. view v
-        ≡ expecting (option_map (λ t. t.now) reply.entry) (view event.now)) }
+        ≡ event_with_reply (option_map (λ t. t.now) reply.entry) (view event.now)) }
 {
     let copy = event.clone()?;
     match reply {
@@ -50,18 +50,18 @@ fn expecting(alloc: Global, event: &Value, reply: Option<&str>) -> Result<Value,
 }
 
 /// Copies the events, each with the reply of its number.
-#[tactic(auto, unfolding(crate::specs::Record::expecting_each))]
-fn expecting_each(
+#[tactic(auto, unfolding(crate::specs::Record::events_with_replies))]
+fn events_with_replies(
     alloc: Global,
     events: &[Value],
     replies: &[String],
 ) -> Result<Vec<Value>, AllocError>
     ensures { IfOk result (λ v. items_view v.items
-        ≡ expecting_each 0 (map string_bytes replies.now) (items_view events.now)) }
+        ≡ events_with_replies 0 (map string_bytes replies.now) (items_view events.now)) }
 {
     let mut list = Vec::new(alloc);
     for (number, event) in events.iter().enumerate() {
-        list.push(expecting(alloc, event, reply_at(replies, number))?)?;
+        list.push(event_with_reply(alloc, event, reply_at(replies, number))?)?;
     }
     Ok(list)
 }
@@ -71,7 +71,7 @@ fn put_replies(alloc: Global, value: Value, replies: &[String]) -> Result<Value,
     ensures { IfOk result (λ v. view v ≡ with_replies (map string_bytes replies.now) (view value)) }
 {
     let events = match items_at(&value, "events") {
-        Some(events) => expecting_each(alloc, events, replies)?,
+        Some(events) => events_with_replies(alloc, events, replies)?,
         None => return Ok(value),
     };
     put_member(alloc, value, "events", Value::Array(events))
@@ -128,7 +128,7 @@ pub fn record_replies(
     ensures { IfOk result (λ text. IsTextOf text.items
         (record_of (map string_bytes replies.now) (map string_bytes lines.now) (view value))) }
 {
-    let expecting = put_replies(alloc, value, replies)?;
-    let whole = put_lines(alloc, expecting, lines)?;
+    let recording = put_replies(alloc, value, replies)?;
+    let whole = put_lines(alloc, recording, lines)?;
     whole.to_vec_pretty(alloc)
 }

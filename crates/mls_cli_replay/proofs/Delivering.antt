@@ -1,7 +1,7 @@
 -- Deliveries, one by one: which world was reached, what was counted, and what is left.
-use Rattle.std.proofs.Common.{◌≡◌, ◌∙◌, ◌≤◌, ◌<◌, ◌^◌, ◌+◌, ℕ, zero, suc, List, [], ◌∷◌, ◌++◌, length, map, take, drop, drop-cons, get_or, add-one, arith, refl, ap, sym, subst}
-use Rattle.std.proofs.Math.Seq.{take-suc}
-use Rattle.std.proofs.lemmas.List.{drop_all, map-append}
+use Rattle.std.proofs.Common.{◌≡◌, ◌∙◌, ◌≤◌, ◌<◌, ◌^◌, ◌+◌, ℕ, List, [], ◌∷◌, ◌++◌, length, take, drop, drop-cons, get_or, add-one, arith, refl, ap, sym, subst}
+use Rattle.std.proofs.Math.Seq.{take-length, take-suc}
+use Rattle.std.proofs.lemmas.List.{drop_all, map-append, take-map}
 use Rattle.mls_suite.specs.Crypto.{Crypto}
 use Rattle.mls_model.specs.declared.effect.Effect.{Effect}
 use Rattle.mls_model.specs.declared.effect.Effect.TheVariants as effect
@@ -13,7 +13,7 @@ use Rattle.mls_model.specs.declared.event.Source.{Source}
 use Rattle.mls_model.specs.World.{World}
 use Rattle.mls_model.specs.Run.{run, replies, step}
 use Rattle.mls_model.proofs.RunLaws.{run_in_parts}
-use Rattle.mls_cli_replay.specs.Actions.{HasRoom, HasRunPart, counted, counted_effect, deliveries, no_deliveries, tally_from, tally_of}
+use Rattle.mls_cli_replay.specs.Actions.{HasRoom, HasRunPart, tally_with, tally_with_effect, deliveries, no_deliveries, tally_from, tally_of}
 use Rattle.mls_cli_replay.specs.declared.deliveries.Tally.{Tally}
 
 -- ---- counts
@@ -32,7 +32,7 @@ none_counted = record { proposed = omega arith; known = omega arith; advanced = 
 pub room : (t : Tally) (n : ℕ) → IsUpTo t n → n + 1 < 2 ^ 64 → HasRoom t
 room t n p lt = record { proposed = omega arith; known = omega arith; advanced = omega arith; removed = omega arith; refused = omega arith }
 
-effect_counted : (t : Tally) (n : ℕ) (e : Effect) → IsUpTo t n → IsUpTo (counted_effect t e) (n + 1)
+effect_counted : (t : Tally) (n : ℕ) (e : Effect) → IsUpTo t n → IsUpTo (tally_with_effect t e) (n + 1)
 effect_counted t n (effect.Proposed reference) p = record { proposed = omega arith; known = omega arith; advanced = omega arith; removed = omega arith; refused = omega arith }
 effect_counted t n (effect.Known reference) p = record { proposed = omega arith; known = omega arith; advanced = omega arith; removed = omega arith; refused = omega arith }
 effect_counted t n (effect.Advanced epoch) p = record { proposed = omega arith; known = omega arith; advanced = omega arith; removed = omega arith; refused = omega arith }
@@ -41,7 +41,7 @@ effect_counted t n effect.Removed p = record { proposed = omega arith; known = o
 refusal_counted : (t : Tally) (n : ℕ) → IsUpTo t n → IsUpTo (record t { refused = t.refused + 1 }) (n + 1)
 refusal_counted t n p = record { proposed = omega arith; known = omega arith; advanced = omega arith; removed = omega arith; refused = omega arith }
 
-one_counted : (t : Tally) (n : ℕ) (r : Reply) → IsUpTo t n → IsUpTo (counted t r) (n + 1)
+one_counted : (t : Tally) (n : ℕ) (r : Reply) → IsUpTo t n → IsUpTo (tally_with t r) (n + 1)
 one_counted t n (reply.Delivered e) p = effect_counted t n e p
 one_counted t n (reply.Candidate candidate message) p = refusal_counted t n p
 one_counted t n (reply.Created member) p = refusal_counted t n p
@@ -71,6 +71,9 @@ run_one c w e = refl
 pub one_run : (c : Crypto) (w v : World) (e : Event) (r : Reply) → step c w e ≡ (r, v) → v ≡ run c w (e ∷ [])
 one_run c w v e r h = sym (run_one c w e ∙ ap (λ (x : Reply × World). x.1) h)
 
+pub all_run : (c : Crypto) (w v : World) (es : List Event) → v ≡ run c w es → HasRunPart c w v es
+all_run c w v es same = record { count = length es; world = same ∙ ap (λ (xs : List Event). run c w xs) (sym (take-length es)) }
+
 pub nothing_run : (c : Crypto) (w v : World) (es : List Event) → v ≡ w → HasRunPart c w v es
 nothing_run c w v es same = record { count = 0; world = same ∙ sym (run_nothing c w) }
 
@@ -78,7 +81,7 @@ run_first : (c : Crypto) (w : World) (e : Event) (es : List Event) → run c w (
 unfolding run
 run_first c w e es = refl
 
-tally_first : (c : Crypto) (w : World) (t : Tally) (e : Event) (es : List Event) → tally_from t (replies c w (e ∷ es)) ≡ tally_from (counted t (step c w e).0) (replies c (step c w e).1 es)
+tally_first : (c : Crypto) (w : World) (t : Tally) (e : Event) (es : List Event) → tally_from t (replies c w (e ∷ es)) ≡ tally_from (tally_with t (step c w e).0) (replies c (step c w e).1 es)
 unfolding tally_from replies
 tally_first c w t e es = refl
 
@@ -99,7 +102,7 @@ module _ (c : Crypto) (w : World) (source : Source) (all : List ℕ) (i : ℕ) (
   front : deliveries source (take (i + 1) all) ≡ deliveries source (take i all) ++ (here ∷ [])
   front = rw (add-one i) (ap (deliveries source) (take-suc all i 0 lt) ∙ map-append (λ (k : ℕ). event.Deliver k source) (take i all) (get_or all i 0 ∷ []))
 
-  pub delivered_next : (v u : World) (t n : Tally) (r : Reply) → Delivered c w source all i v t → step c v here ≡ (r, u) → n ≡ counted t r → Delivered c w source all (i + 1) u n
+  pub delivered_next : (v u : World) (t n : Tally) (r : Reply) → Delivered c w source all i v t → step c v here ≡ (r, u) → n ≡ tally_with t r → Delivered c w source all (i + 1) u n
   delivered_next v u t n r p stepped counts =
       let to : (step c v here).1 ≡ u = ap (λ (x : Reply × World). x.1) stepped in
       let said : (step c v here).0 ≡ r = ap (λ (x : Reply × World). x.0) stepped in
@@ -114,22 +117,17 @@ module _ (c : Crypto) (w : World) (source : Source) (all : List ℕ) (i : ℕ) (
         tally = p.tally
             ∙ ap (λ (es : List Event). tally_from t (replies c v es)) left
             ∙ tally_first c v t here (deliveries source (drop (i + 1) all))
-            ∙ ap (λ (x : Reply). tally_from (counted t x) (replies c (step c v here).1 (deliveries source (drop (i + 1) all)))) said
-            ∙ ap (λ (x : World). tally_from (counted t r) (replies c x (deliveries source (drop (i + 1) all)))) to
+            ∙ ap (λ (x : Reply). tally_from (tally_with t x) (replies c (step c v here).1 (deliveries source (drop (i + 1) all)))) said
+            ∙ ap (λ (x : World). tally_from (tally_with t r) (replies c x (deliveries source (drop (i + 1) all)))) to
             ∙ ap (λ (x : Tally). tally_from x (replies c u (deliveries source (drop (i + 1) all)))) (sym counts);
         few = subst (λ (x : Tally). IsUpTo x (i + 1)) (sym counts) (one_counted t i r p.few);
       }
 
 -- where it stops, those before have happened
-map_take : {X Y : Type 0} (f : X → Y) (xs : List X) (n : ℕ) → map f (take n xs) ≡ take n (map f xs)
-map_take f xs zero = refl
-map_take f [] (suc n) = refl
-map_take f (x ∷ xs) (suc n) = ap (λ ys. f x ∷ ys) (map_take f xs n)
-
 pub delivered_part : (c : Crypto) (w : World) (source : Source) (all : List ℕ) (i : ℕ) (v u : World) (t : Tally) → Delivered c w source all i v t → u ≡ v → HasRunPart c w u (deliveries source all)
 delivered_part c w source all i v u t p same = record {
   count = i;
-  world = same ∙ p.reached ∙ ap (λ (es : List Event). run c w es) (map_take (λ (k : ℕ). event.Deliver k source) all i);
+  world = same ∙ p.reached ∙ ap (λ (es : List Event). run c w es) (sym (take-map (λ (k : ℕ). event.Deliver k source) i all));
 }
 
 pub record DeliveredAll (c : Crypto) (w : World) (source : Source) (all : List ℕ) (v : World) (t : Tally) : Type 0 where

@@ -32,21 +32,21 @@ abbrev pub no_deliveries : Tally
 no_deliveries = record { proposed = 0; known = 0; advanced = 0; removed = 0; refused = 0 }
 
 -- with one more that did this
-abbrev pub counted_effect : Tally → Effect → Tally
-counted_effect t (effect.Proposed reference) = record t { proposed = t.proposed + 1 }
-counted_effect t (effect.Known reference) = record t { known = t.known + 1 }
-counted_effect t (effect.Advanced epoch) = record t { advanced = t.advanced + 1 }
-counted_effect t effect.Removed = record t { removed = t.removed + 1 }
+abbrev pub tally_with_effect : Tally → Effect → Tally
+tally_with_effect t (effect.Proposed reference) = record t { proposed = t.proposed + 1 }
+tally_with_effect t (effect.Known reference) = record t { known = t.known + 1 }
+tally_with_effect t (effect.Advanced epoch) = record t { advanced = t.advanced + 1 }
+tally_with_effect t effect.Removed = record t { removed = t.removed + 1 }
 
 -- with one more reply
-abbrev pub counted : Tally → Reply → Tally
-counted t (reply.Delivered done) = counted_effect t done
-counted t other = record t { refused = t.refused + 1 }
+abbrev pub tally_with : Tally → Reply → Tally
+tally_with t (reply.Delivered done) = tally_with_effect t done
+tally_with t other = record t { refused = t.refused + 1 }
 
 -- how often each kind of reply came, behind those that are counted
 unfoldable pub tally_from : Tally → List Reply → Tally
 tally_from t [] = t
-tally_from t (r ∷ rs) = tally_from (counted t r) rs
+tally_from t (r ∷ rs) = tally_from (tally_with t r) rs
 
 abbrev pub tally_of : List Reply → Tally
 tally_of rs = tally_from no_deliveries rs

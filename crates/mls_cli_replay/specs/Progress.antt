@@ -1,10 +1,13 @@
 -- What is reported of how far a replay has come: behind each action, how many actions of how many
 -- are done. What takes reports says how one changes it; nothing is said here of what it shows.
-use Rattle.std.specs.Prelude.{◌≡◌, ◌≤◌, ℕ, zero, suc, List, length, Result, Ok, Err}
+use Rattle.std.specs.Prelude.{◌≡◌, ◌≤◌, ℕ, zero, suc, List, length, take, slice_get, Some, Result, Ok, Err, OnErr}
 use Rattle.mls_suite.specs.Crypto.{Crypto}
+use Rattle.mls_model.specs.World.{World}
 use Rattle.mls_cli_recording.specs.Calls.{Recording}
 use Rattle.mls_cli_recording.specs.Recording.{recording}
+use Rattle.mls_cli_recording.specs.declared.actions.Action.{Action}
 use Rattle.mls_cli_recording.specs.declared.reading.RecordedRun.{RecordedRun}
+use Rattle.mls_cli_replay.specs.Actions.{events_in, run_all, HasRunPart}
 
 -- one report behind each of the first so many actions of all, in their order
 unfoldable pub ReportsFirst : {P : Type 0} → (P → P → ℕ → ℕ → Type 0) → ℕ → ℕ → P → P → Type 0
@@ -35,3 +38,23 @@ abbrev pub ReportsFile : {P T E : Type 0} → (P → P → ℕ → ℕ → Type 
     Result T E → Type 0
 ReportsFile reports c file old new result =
     ReportsRecording reports (recording c.number file) old new result
+
+-- ---- where want of memory stops what does actions
+
+-- It stops within one: each of those before it is done and reported, it is not reported, some of
+-- its events have happened, and none behind it has begun.
+pub record HasDonePart {P : Type 0} (reports : P → P → ℕ → ℕ → Type 0) (c : Crypto) (w v : World)
+    (actions : List Action) (old new : P) : Type 0 where
+  pub count : ℕ
+  pub one : Action
+  pub is : slice_get actions count ≡ Some one
+  pub reached : World
+  pub before : reached ≡ run_all c w (take count actions)
+  pub reported : ReportsFirst reports (length actions) count old new
+  pub part : HasRunPart c reached v (events_in reached one)
+
+-- Where it fails, some of them are done.
+abbrev pub DoesPart : {P T E : Type 0} → (P → P → ℕ → ℕ → Type 0) → P → P → Crypto → World →
+    World → List Action → Result T E → Type 0
+DoesPart reports told now c old new actions result =
+    OnErr result (HasDonePart reports c old new actions told now)

@@ -1,7 +1,7 @@
 //! A message, delivered to each active member.
 
 ghost use Rattle.std.specs.Prelude.{◌≡◌};
-ghost use Rattle.mls_cli_replay.specs.Actions.{counted, counted_effect, deliveries, deliveries_to_all, no_deliveries, DeliversOnce, HasRoom, RunsAll, RunsPart, Tallies};
+ghost use Rattle.mls_cli_replay.specs.Actions.{deliveries, deliveries_to_all, no_deliveries, tally_with, tally_with_effect, DeliversOnce, HasRoom, RunsAll, RunsPart, Tallies};
 
 use mls_model::{Effect, Reply, Source};
 use mls_suite::{OutOfMemory, Suite};
@@ -32,9 +32,9 @@ fn no_deliveries() -> Tally
 }
 
 /// Counts one more delivery, which did this.
-fn counted_effect(tally: Tally, effect: Effect) -> Tally
+fn tally_with_effect(tally: Tally, effect: Effect) -> Tally
     requires { HasRoom tally }
-    ensures { result ≡ counted_effect tally effect }
+    ensures { result ≡ tally_with_effect tally effect }
 {
     match effect {
         Effect::Proposed { .. } => Tally {
@@ -57,12 +57,12 @@ fn counted_effect(tally: Tally, effect: Effect) -> Tally
 }
 
 /// Counts one more reply to a delivery.
-fn counted(tally: Tally, reply: Reply) -> Tally
+fn tally_with(tally: Tally, reply: Reply) -> Tally
     requires { HasRoom tally }
-    ensures { result ≡ counted tally reply }
+    ensures { result ≡ tally_with tally reply }
 {
     match reply {
-        Reply::Delivered { effect } => counted_effect(tally, effect),
+        Reply::Delivered { effect } => tally_with_effect(tally, effect),
         Reply::Candidate { .. }
         | Reply::Created { .. }
         | Reply::Proposal { .. }
@@ -111,7 +111,7 @@ fn deliver_to<S: Suite>(
     let mut tally = no_deliveries();
     for member in members {
         let reply = deliver(world, *member, source)?;
-        tally = counted(tally, reply);
+        tally = tally_with(tally, reply);
     }
     Ok(tally)
 }

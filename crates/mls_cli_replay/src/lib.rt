@@ -72,7 +72,13 @@ fn play<S: Suite, O: Output, P: Progress>(
     ensures reports { ReportsRun P.reports recorded.now progress.old progress.new result }
 {
     let mut world = World::<S>::new(alloc);
-    let met = play_actions(alloc, &mut world, recorded.actions.as_slice(), out, progress)?;
+    let met = play_actions(
+        alloc,
+        &mut world,
+        recorded.actions.as_slice(),
+        out,
+        progress,
+    )?;
     let texts = recorded.final_lines.as_deref();
     let same = print_end(alloc, &world, texts, out)?;
     Ok(status_of(met, same))

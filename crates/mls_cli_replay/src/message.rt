@@ -2,7 +2,7 @@
 
 ghost use Rattle.std.specs.Prelude.{◌≡◌, ◌≢◌, ◌≤◌, false, length, IfOk, IfErr, None, option_copied};
 ghost use Rattle.mls_cli_replay.specs.Actions.{DoesAll};
-ghost use Rattle.mls_cli_replay.specs.Progress.{Reports};
+ghost use Rattle.mls_cli_replay.specs.Progress.{DoesPart, Reports};
 ghost use Rattle.mls_cli_text.specs.InputOutput.{write_failed};
 ghost use Rattle.mls_cli_replay.specs.DigitsLaws.{digits_nonempty};
 ghost use Rattle.mls_cli_replay.specs.Message.{MakesDigits, PrintsFound, digits_text};
@@ -56,6 +56,9 @@ pub fn do_actions<S: Suite, P: Progress>(
     progress: &mut P,
 ) -> Result<(), Fault>
     ensures world { DoesAll S.crypto world.old world.new (actions_of recorded.now) result }
+    // At a fault all actions before one are done and reported, and none behind it has begun.
+    ensures cut { DoesPart P.reports progress.old progress.new S.crypto world.old world.new
+        (actions_of recorded.now) result }
     ensures fault { IfErr result (λ e. e ≡ Fault.OutOfMemory) }
     ensures reports { Reports P.reports (length recorded.now) progress.old progress.new result }
 {

@@ -3,7 +3,7 @@
 ghost use Rattle.std.specs.Prelude.{◌≡◌, ◌≢◌, ◌≤◌, ◌++◌, length, map, option_map, IfOk, IfErr, OnOk};
 ghost use Rattle.mls_cli_text.specs.InputOutput.{write_failed};
 ghost use Rattle.mls_cli_replay.specs.Actions.{DoesAll};
-ghost use Rattle.mls_cli_replay.specs.Progress.{Reports, ReportsRun};
+ghost use Rattle.mls_cli_replay.specs.Progress.{DoesPart, Reports, ReportsRun};
 ghost use Rattle.mls_cli_replay.specs.Quiet.{CollectsUnmet, PrintsQuiet, quiet_action};
 ghost use Rattle.mls_cli_replay.specs.Replay.{actions_of, entry_of};
 
@@ -53,6 +53,9 @@ fn collect_unmet<'a, S: Suite, P: Progress>(
 ) -> Result<Vec<ReplayLine<'a>>, AllocError>
     ensures world { DoesAll S.crypto world.old world.new (actions_of recorded.now) result }
     ensures lines { CollectsUnmet S.crypto world.old recorded.now result }
+    // At a fault all actions before one are done and reported, and none behind it has begun.
+    ensures cut { DoesPart P.reports progress.old progress.new S.crypto world.old world.new
+        (actions_of recorded.now) result }
     ensures reports { Reports P.reports (length recorded.now) progress.old progress.new result }
 {
     let mut lines = Vec::new(alloc);

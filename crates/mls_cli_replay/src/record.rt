@@ -3,7 +3,7 @@
 ghost use Rattle.std.specs.Prelude.{◌≡◌, ◌≢◌, ◌≤◌, length, map, string_bytes, IfOk, IfErr};
 ghost use Rattle.mls_cli_text.specs.InputOutput.{write_failed};
 ghost use Rattle.mls_cli_replay.specs.Actions.{outcomes, DoesAll};
-ghost use Rattle.mls_cli_replay.specs.Progress.{Reports};
+ghost use Rattle.mls_cli_replay.specs.Progress.{DoesPart, Reports};
 ghost use Rattle.mls_cli_replay.specs.RecordLaws.{file_text_nonempty};
 ghost use Rattle.mls_cli_replay.specs.RecordedReplies.{MakesRecord, PrintsRecordOf, file_text, words_of_members};
 ghost use Rattle.mls_cli_replay.specs.Replay.{actions_of};
@@ -51,6 +51,9 @@ fn collect_replies<S: Suite, P: Progress>(
     ensures world { DoesAll S.crypto world.old world.new (actions_of recorded.now) result }
     ensures texts { IfOk result (λ v. map string_bytes v.items
         ≡ map outcome_text (outcomes S.crypto world.old (actions_of recorded.now))) }
+    // At a fault all actions before one are done and reported, and none behind it has begun.
+    ensures cut { DoesPart P.reports progress.old progress.new S.crypto world.old world.new
+        (actions_of recorded.now) result }
     ensures reports { Reports P.reports (length recorded.now) progress.old progress.new result }
 {
     let mut texts = Vec::new(alloc);

@@ -8,7 +8,7 @@ ghost use Rattle.mls_cli_show.specs.Numbered.{in_full};
 use crate::extensions::extension_lines;
 use crate::numbered::{Detail, Listed, list_lines, list_lines_in_full};
 use crate::package::{key_package_lines, leaf_lines};
-use mls_cli_text::{Field, Line, Prefix, append_line, append_lines, line_of, line_with};
+use mls_cli_text::{Field, Line, Prefix, append_lines, line_of, line_with};
 use mls_leaf::Proposal;
 use mls_types::{Commit, ProposalOrRef, UpdatePath, UpdatePathNode};
 use std::alloc::{AllocError, Global};

@@ -5,7 +5,7 @@ ghost use Rattle.mls_cli_text.specs.Text.{bytes, digits, entries_of, entry, entr
 ghost use Rattle.mls_cli_show.specs.Extensions.{extension_entries};
 ghost use Rattle.mls_cli_show.specs.Commit.{shown_count};
 ghost use Rattle.mls_cli_show.specs.Group.{group_info_entries, listed_node, listed_secrets, member_entry, nodes_entries, parent_entries, tree_nodes, welcome_entries};
-ghost use Rattle.mls_cli_show.specs.Numbered.{in_full, numbered};
+ghost use Rattle.mls_cli_show.specs.Numbered.{in_full};
 
 use crate::commit::{count_field, with_kind};
 use crate::extensions::extension_lines;

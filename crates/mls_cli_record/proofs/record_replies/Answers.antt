@@ -6,5 +6,5 @@ use Rattle.mls_cli_record.proofs.record_replies.Goals as goal
 
 pub returns : goal.returns
 returns c =
-    text_of c.to_vec_pretty.result (view c.in_ok-whole.whole) _ (c.in_ok-whole.ensures ∙ ap (with_lines (map string_bytes c.args.lines.now)) c.in_ok-expecting.ensures)
+    text_of c.to_vec_pretty.result (view c.in_ok-whole.whole) _ (c.in_ok-whole.ensures ∙ ap (with_lines (map string_bytes c.args.lines.now)) c.in_ok-recording.ensures)
     c.to_vec_pretty.ensures.layout c.to_vec_pretty.ensures.order c.to_vec_pretty.ensures.reads_back

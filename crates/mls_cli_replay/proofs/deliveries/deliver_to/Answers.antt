@@ -17,7 +17,7 @@ returns-in_err-reply-clause-part g c =
 pub loop-member-preserved : goal.loop-member-preserved
 loop-member-preserved g c =
     delivered_next g.S.Suite.crypto c.args.world.now c.args.source.now c.args.members.now c.loop-member.member-index c.loop-member-test.true
-    c.loop-member.world c.deliver.new.world c.loop-member.tally c.counted-tally.result c.in_ok-reply.reply c.loop-member.invariant c.in_ok-reply.ensures c.counted-tally.ensures
+    c.loop-member.world c.deliver.new.world c.loop-member.tally c.tally_with-tally.result c.in_ok-reply.reply c.loop-member.invariant c.in_ok-reply.ensures c.tally_with-tally.ensures
 
 pub returns-clause-world : goal.returns-clause-world
 returns-clause-world g c =

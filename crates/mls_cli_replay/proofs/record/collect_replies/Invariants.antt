@@ -1,4 +1,6 @@
-use Rattle.std.proofs.Common.{drop, length}
+use Rattle.std.proofs.Common.{◌≡◌, drop, length, take}
+use Rattle.mls_cli_replay.specs.Actions.{run_all}
+use Rattle.mls_cli_replay.specs.Replay.{actions_of}
 use Rattle.mls_cli_replay.proofs.Reporting.{Reported}
 use Rattle.mls_cli_replay.proofs.Wording.{Replied}
 use Rattle.mls_cli_replay.proofs.record.collect_replies.Given as goal
@@ -7,4 +9,5 @@ abbrev pub invariant-loop-action : goal.invariant-loop-action
 invariant-loop-action g l = record {
   replied : Replied g.S.Suite.crypto l.initial.world l.recorded l.world l.texts.items (drop l.action l.recorded);
   reported : Reported g.P.Progress.reports (length l.recorded) l.action l.initial.progress l.progress;
+  before : l.world ≡ run_all g.S.Suite.crypto l.initial.world (actions_of (take l.action l.recorded));
 }
