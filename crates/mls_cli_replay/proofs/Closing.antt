@@ -16,8 +16,8 @@ use Rattle.mls_cli_recording.specs.Recording.{recording}
 use Rattle.mls_cli_recording.specs.declared.reading.Recorded.{Recorded}
 use Rattle.mls_cli_recording.specs.declared.reading.RecordedRun.{RecordedRun}
 use Rattle.mls_cli_replay.specs.Actions.{outcomes, run_all}
-use Rattle.mls_cli_replay.specs.Replay.{IsRefusal, IsReplay, PrintsOne, actions_of, closing_entries, closing_text, ending_by, entry_text, expectations_of, final_entries, is_as_expected, is_silent, outcome_entries, page_of_run, played_entries, played_page}
-use Rattle.mls_cli_replay.proofs.Playing.{meet, said}
+use Rattle.mls_cli_replay.specs.Replay.{IsRefusal, IsReplay, PrintsOne, actions_of, all_meet, closing_entries, closing_text, ending_by, entry_text, expectations_of, final_entries, is_as_expected, is_silent, outcome_entries, page_of_run, played_entries, played_page}
+use Rattle.mls_cli_replay.proofs.Playing.{said}
 
 pub no_more_said : (met : Bool) → ending_text (ending_by met) ≡ []
 no_more_said true = refl
@@ -43,14 +43,14 @@ module _ (c : Crypto) (rs : List Recorded) (lines : Option (List (List ℕ))) wh
       ∙ ap (λ (x : World). said c x 0 rs ++ closing_text (run_all c x (actions_of rs)).seats lines) (sym begun)
       ∙ ap (λ (x : World). said c w 0 rs ++ closing_text x.seats lines) (sym is)
 
-  pub met_from : (w v : World) (met same : Bool) → w ≡ empty_world → v ≡ run_all c w (actions_of rs) → met ≡ meet c w rs → same ≡ is_silent (final_entries v.seats lines) → (met && same) ≡ is_as_expected c rs lines
+  pub met_from : (w v : World) (met same : Bool) → w ≡ empty_world → v ≡ run_all c w (actions_of rs) → met ≡ all_meet c w rs → same ≡ is_silent (final_entries v.seats lines) → (met && same) ≡ is_as_expected c rs lines
   unfolding is_as_expected
   met_from w v met same begun is meets ends =
-      ap (λ (b : Bool). b && same) (meets ∙ ap (λ (x : World). meet c x rs) begun)
-      ∙ ap (λ (b : Bool). meet c empty_world rs && b)
+      ap (λ (b : Bool). b && same) (meets ∙ ap (λ (x : World). all_meet c x rs) begun)
+      ∙ ap (λ (b : Bool). all_meet c empty_world rs && b)
       (ends ∙ ap (λ (x : World). is_silent (final_entries x.seats lines)) (is ∙ ap (λ (x : World). run_all c x (actions_of rs)) begun))
 
-  pub closing : (old new now : Option (List ℕ)) (w v : World) (met same : Bool) (status : ℕ) → w ≡ empty_world → v ≡ run_all c w (actions_of rs) → met ≡ meet c w rs
+  pub closing : (old new now : Option (List ℕ)) (w v : World) (met same : Bool) (status : ℕ) → w ≡ empty_world → v ≡ run_all c w (actions_of rs) → met ≡ all_meet c w rs
       → same ≡ is_silent (final_entries v.seats lines) → status ≡ ending_status (ending_by (met && same)) → Appends old new (said c w 0 rs) → Appends new now (closing_text v.seats lines)
       → Appends old now (printout entry_text (played_page c rs lines)).text × (status ≡ (printout entry_text (played_page c rs lines)).status)
   closing old new now w v met same status begun is meets ends answers first second = (

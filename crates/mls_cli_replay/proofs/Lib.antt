@@ -7,6 +7,7 @@ mod Pages
 mod Closing
 mod Stopping
 mod Reporting
+mod AtFault
 pub mod ReportLaws
 mod Messages
 mod FoundMessages

@@ -8,12 +8,12 @@ use Rattle.mls_cli_text.specs.Page.{ending_status, printout}
 use Rattle.mls_cli_recording.specs.declared.reading.Recorded.{Recorded}
 use Rattle.mls_cli_replay.specs.Actions.{outcome_in, outcomes, run_all, world_after}
 use Rattle.mls_cli_replay.specs.Quiet.{quiet_action, quiet_actions, quiet_entries, quiet_page}
-use Rattle.mls_cli_replay.specs.Replay.{ReplayEntry, actions_of, all_met, closing_entries, closing_text, ending_by, entry_of, entry_text, expectation, expectations_of, final_entries, is_as_expected, is_met, is_silent}
+use Rattle.mls_cli_replay.specs.Replay.{ReplayEntry, actions_of, all_meet, all_met, closing_entries, closing_text, ending_by, entry_of, entry_text, expectation, expectations_of, final_entries, is_as_expected, is_met, is_silent}
 use Rattle.mls_cli_replay.specs.declared.line.ReplayLine.{ReplayLine}
 use Rattle.mls_cli_replay.specs.declared.reply.Outcome.{Outcome}
 use Rattle.mls_cli_replay.proofs.Closing.{met_from, no_more_said}
 use Rattle.mls_cli_replay.proofs.Ending.{lines_say, silent}
-use Rattle.mls_cli_replay.proofs.Playing.{meet, next_of, none_left, run_first, run_none}
+use Rattle.mls_cli_replay.proofs.Playing.{next_of, none_left, run_first, run_none}
 
 abbrev pub quiet_from : Crypto → World → ℕ → List Recorded → List ReplayEntry
 quiet_from c w i rs = quiet_actions i (outcomes c w (actions_of rs)) (expectations_of rs)
@@ -110,5 +110,5 @@ module _ (c : Crypto) (rs : List Recorded) (lines : Option (List (List ℕ))) wh
       → met ≡ (length ls == 0) → same ≡ is_silent (final_entries v.seats lines) → status ≡ ending_status (ending_by (met && same))
       → status ≡ (printout entry_text (quiet_page c rs lines)).status
   quiet_status w v ls met same status begun is said none ends answers =
-      let meets : met ≡ meet c w rs = silent ls (quiet_from c w 0 rs) met said none ∙ silent_quiet 0 (outcomes c w (actions_of rs)) (expectations_of rs) in
+      let meets : met ≡ all_meet c w rs = silent ls (quiet_from c w 0 rs) met said none ∙ silent_quiet 0 (outcomes c w (actions_of rs)) (expectations_of rs) in
       answers ∙ ap (λ (b : Bool). ending_status (ending_by b)) (met_from c rs lines w v met same begun is meets ends) ∙ sym status_is

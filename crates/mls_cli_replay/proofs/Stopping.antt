@@ -14,29 +14,29 @@ use Rattle.mls_cli_recording.specs.declared.actions.Action.{Action}
 use Rattle.mls_cli_recording.specs.declared.reading.Recorded.{Recorded}
 use Rattle.mls_cli_replay.specs.Actions.{events_in, run_all, world_after, HasRunPart}
 use Rattle.mls_cli_replay.specs.Progress.{HasDonePart, ReportsFirst}
-use Rattle.mls_cli_replay.specs.Replay.{StopsAt, StopsWithin, actions_of}
+use Rattle.mls_cli_replay.specs.Replay.{StopsAt, StopsWithin, action_text, actions_of}
 use Rattle.mls_cli_replay.proofs.Delivering.{all_run}
-use Rattle.mls_cli_replay.proofs.Playing.{said, said_first, said_none, said_of, run_first, run_none}
+use Rattle.mls_cli_replay.proofs.Playing.{said, said_first, said_none, run_first, run_none}
 
 -- ---- one action more
 
-said_more : (c : Crypto) (w : World) (i : ℕ) (rs : List Recorded) (r : Recorded) → said c w i (rs ++ (r ∷ [])) ≡ said c w i rs ++ said_of c (run_all c w (actions_of rs)) (i + length rs) r
+said_more : (c : Crypto) (w : World) (i : ℕ) (rs : List Recorded) (r : Recorded) → said c w i (rs ++ (r ∷ [])) ≡ said c w i rs ++ action_text c (run_all c w (actions_of rs)) (i + length rs) r
 said_more c w i [] r =
     said_first c w i r []
-    ∙ ap (λ (t : List ℕ). said_of c w i r ++ t) (said_none c (world_after c w r.action) (i + 1))
-    ∙ append-nil (said_of c w i r)
-    ∙ ap (λ (n : ℕ). said_of c w n r) (sym (add-zero i))
-    ∙ ap (λ (v : World). said_of c v (i + 0) r) (sym (run_none c w))
-    ∙ ap (λ (t : List ℕ). t ++ said_of c (run_all c w (actions_of [])) (i + 0) r) (sym (said_none c w i))
+    ∙ ap (λ (t : List ℕ). action_text c w i r ++ t) (said_none c (world_after c w r.action) (i + 1))
+    ∙ append-nil (action_text c w i r)
+    ∙ ap (λ (n : ℕ). action_text c w n r) (sym (add-zero i))
+    ∙ ap (λ (v : World). action_text c v (i + 0) r) (sym (run_none c w))
+    ∙ ap (λ (t : List ℕ). t ++ action_text c (run_all c w (actions_of [])) (i + 0) r) (sym (said_none c w i))
 said_more c w i (x ∷ rs) r =
     let v = (world_after c w x.action) in
     let place : (i + 1) + length rs ≡ i + suc (length rs) = omega arith in
     said_first c w i x (rs ++ (r ∷ []))
-    ∙ ap (λ (t : List ℕ). said_of c w i x ++ t) (said_more c v (i + 1) rs r)
-    ∙ sym (append_assoc (said_of c w i x) (said c v (i + 1) rs) (said_of c (run_all c v (actions_of rs)) ((i + 1) + length rs) r))
-    ∙ ap (λ (t : List ℕ). t ++ said_of c (run_all c v (actions_of rs)) ((i + 1) + length rs) r) (sym (said_first c w i x rs))
-    ∙ ap (λ (n : ℕ). said c w i (x ∷ rs) ++ said_of c (run_all c v (actions_of rs)) n r) place
-    ∙ ap (λ (u : World). said c w i (x ∷ rs) ++ said_of c u (i + suc (length rs)) r) (sym (run_first c w x rs))
+    ∙ ap (λ (t : List ℕ). action_text c w i x ++ t) (said_more c v (i + 1) rs r)
+    ∙ sym (append_assoc (action_text c w i x) (said c v (i + 1) rs) (action_text c (run_all c v (actions_of rs)) ((i + 1) + length rs) r))
+    ∙ ap (λ (t : List ℕ). t ++ action_text c (run_all c v (actions_of rs)) ((i + 1) + length rs) r) (sym (said_first c w i x rs))
+    ∙ ap (λ (n : ℕ). said c w i (x ∷ rs) ++ action_text c (run_all c v (actions_of rs)) n r) place
+    ∙ ap (λ (u : World). said c w i (x ∷ rs) ++ action_text c u (i + suc (length rs)) r) (sym (run_first c w x rs))
 
 run_more : (c : Crypto) (w : World) (rs : List Recorded) (r : Recorded) → run_all c w (actions_of (rs ++ (r ∷ []))) ≡ (world_after c (run_all c w (actions_of rs)) r.action)
 run_more c w [] r = run_first c w r [] ∙ run_none c (world_after c w r.action) ∙ ap (λ (v : World). (world_after c v r.action)) (sym (run_none c w))
@@ -66,22 +66,22 @@ pub reached_nothing : (c : Crypto) (w : World) (all : List Recorded) (old : Opti
 reached_nothing c w all old = record { grown = subst (Appends old old) (sym (said_none c w 0)) (Appends-nil old); world = before_first c w all }
 
 text_next : (c : Crypto) (w : World) (all : List Recorded) (i : ℕ) (v : World) (r : Recorded) → i < length all → r ≡ get_or all i r → v ≡ run_all c w (actions_of (take i all))
-    → said c w 0 (take (i + 1) all) ≡ said c w 0 (take i all) ++ said_of c v i r
+    → said c w 0 (take (i + 1) all) ≡ said c w 0 (take i all) ++ action_text c v i r
 text_next c w all i v r lt is world =
     ap (said c w 0) (take_next all i r lt is)
     ∙ said_more c w 0 (take i all) r
-    ∙ ap (λ (n : ℕ). said c w 0 (take i all) ++ said_of c (run_all c w (actions_of (take i all))) n r) (zero-add (length (take i all)) ∙ length-take-le i all (omega arith))
-    ∙ ap (λ (u : World). said c w 0 (take i all) ++ said_of c u i r) (sym world)
+    ∙ ap (λ (n : ℕ). said c w 0 (take i all) ++ action_text c (run_all c w (actions_of (take i all))) n r) (zero-add (length (take i all)) ∙ length-take-le i all (omega arith))
+    ∙ ap (λ (u : World). said c w 0 (take i all) ++ action_text c u i r) (sym world)
 
 pub reached_next : (c : Crypto) (w : World) (all : List Recorded) (old new now : Option (List ℕ)) (i : ℕ) (v u : World) (r : Recorded)
-    → i < length all → r ≡ get_or all i r → Reached c w all old new i v → Appends new now (said_of c v i r) → u ≡ (world_after c v r.action) → Reached c w all old now (i + 1) u
+    → i < length all → r ≡ get_or all i r → Reached c w all old new i v → Appends new now (action_text c v i r) → u ≡ (world_after c v r.action) → Reached c w all old now (i + 1) u
 reached_next c w all old new now i v u r lt is p grew stepped = record {
-  grown = subst (Appends old now) (sym (text_next c w all i v r lt is p.world)) (Appends-trans old new now (said c w 0 (take i all)) (said_of c v i r) p.grown grew);
+  grown = subst (Appends old now) (sym (text_next c w all i v r lt is p.world)) (Appends-trans old new now (said c w 0 (take i all)) (action_text c v i r) p.grown grew);
   world = before_next c w all i v u r lt is p.world stepped;
 }
 
 pub stops : {P : Type 0} (reports : P → P → ℕ → ℕ → Type 0) (c : Crypto) (w : World) (all : List Recorded) (old new now : Option (List ℕ)) (begun told : P) (i : ℕ) (v u : World) (r : Recorded)
-    → i < length all → r ≡ get_or all i r → Reached c w all old new i v → ReportsFirst reports (length all) i begun told → AppendsPart new now (said_of c v i r)
+    → i < length all → r ≡ get_or all i r → Reached c w all old new i v → ReportsFirst reports (length all) i begun told → AppendsPart new now (action_text c v i r)
     → StopsWithin c v u (events_in v r.action) new now → StopsAt reports c w all old now begun told u
 stops reports c w all old new now begun told i v u r lt is p first part stopped = record {
   count = i;

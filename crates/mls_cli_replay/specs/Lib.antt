@@ -13,4 +13,5 @@ pub mod TreeLaws
 pub mod RecordedReplies
 pub mod RecordLaws
 pub mod Views
+pub mod Faults
 pub mod OneView

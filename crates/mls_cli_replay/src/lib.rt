@@ -21,6 +21,7 @@ ghost use Rattle.mls_cli_text.specs.Page.{ending_status};
 ghost use Rattle.mls_cli_json.specs.Faults.{number_of};
 ghost use Rattle.mls_cli_recording.specs.Calls.{recording_view};
 ghost use Rattle.mls_cli_recording.specs.Recording.{recording};
+ghost use Rattle.mls_cli_replay.specs.Faults.{StopsBehindRun, StopsFile, StopsRun, StopsUnread};
 ghost use Rattle.mls_cli_replay.specs.Message.{PrintsMessage};
 ghost use Rattle.mls_cli_replay.specs.OneMessage.{OneMessage};
 ghost use Rattle.mls_cli_replay.specs.OneReplay.{OneReplay};
@@ -70,6 +71,9 @@ fn play<S: Suite, O: Output, P: Progress>(
     ensures fault { O.failed out.new ≡ write_failed (O.failed out.old) result }
     ensures written { IfErr result (λ e. e ≢ Fault.Read) }
     ensures reports { ReportsRun P.reports recorded.now progress.old progress.new result }
+    // At a fault all actions before one are printed and reported, and none behind it has begun.
+    ensures cut { StopsRun O.contents out.old out.new P.reports progress.old progress.new
+        S.crypto recorded.now result }
 {
     let mut world = World::<S>::new(alloc);
     let met = play_actions(
@@ -101,6 +105,7 @@ fn print_error<O: Output>(alloc: Global, error: JsonError, out: &mut O) -> Resul
     ensures status { IfOk result (λ status. status ≤ 1) }
     ensures fault { O.failed out.new ≡ write_failed (O.failed out.old) result }
     ensures written { IfErr result (λ e. e ≢ Fault.Read) }
+    ensures memory { StopsUnread error result }
 {
     match error {
         JsonError::OutOfMemory => Err(Fault::OutOfMemory),
@@ -142,6 +147,8 @@ fn print_replay<S: Suite, O: Output, P: Progress>(
     ensures fault { O.failed out.new ≡ write_failed (O.failed out.old) result }
     ensures written { IfErr result (λ e. e ≢ Fault.Read) }
     ensures reports { ReportsFile P.reports S.crypto file.now progress.old progress.new result }
+    ensures cut { StopsFile O.contents out.old out.new P.reports progress.old progress.new
+        S.crypto ReplayView.Replies file.now result }
 {
     match recording_for::<S>(alloc, file) {
         Ok(recorded) => play::<S, O, P>(alloc, &recorded, out, progress),
@@ -166,6 +173,8 @@ pub fn replay_message<S: Suite, O: Output, P: Progress>(
     ensures fault { O.failed out.new ≡ write_failed (O.failed out.old) result }
     ensures written { IfErr result (λ e. e ≢ Fault.Read) }
     ensures reports { ReportsFile P.reports S.crypto file.now progress.old progress.new result }
+    ensures cut { StopsFile O.contents out.old out.new P.reports progress.old progress.new
+        S.crypto (ReplayView.Message number) file.now result }
 {
     match recording_for::<S>(alloc, file) {
         Ok(recorded) => {
@@ -189,6 +198,8 @@ pub fn replay_quietly<S: Suite, O: Output, P: Progress>(
     ensures fault { O.failed out.new ≡ write_failed (O.failed out.old) result }
     ensures written { IfErr result (λ e. e ≢ Fault.Read) }
     ensures reports { ReportsFile P.reports S.crypto file.now progress.old progress.new result }
+    ensures cut { StopsFile O.contents out.old out.new P.reports progress.old progress.new
+        S.crypto ReplayView.Unmet file.now result }
 {
     match recording_for::<S>(alloc, file) {
         Ok(recorded) => play_quietly::<S, O, P>(alloc, &recorded, out, progress),
@@ -212,6 +223,8 @@ pub fn replay_tree<S: Suite, O: Output, P: Progress>(
     ensures fault { O.failed out.new ≡ write_failed (O.failed out.old) result }
     ensures written { IfErr result (λ e. e ≢ Fault.Read) }
     ensures reports { ReportsFile P.reports S.crypto file.now progress.old progress.new result }
+    ensures cut { StopsFile O.contents out.old out.new P.reports progress.old progress.new
+        S.crypto (ReplayView.Tree number) file.now result }
 {
     match recording_for::<S>(alloc, file) {
         Ok(recorded) => {
@@ -235,6 +248,8 @@ pub fn replay_record<S: Suite, O: Output, P: Progress>(
     ensures fault { O.failed out.new ≡ write_failed (O.failed out.old) result }
     ensures written { IfErr result (λ e. e ≢ Fault.Read) }
     ensures reports { ReportsFile P.reports S.crypto file.now progress.old progress.new result }
+    ensures cut { StopsFile O.contents out.old out.new P.reports progress.old progress.new
+        S.crypto ReplayView.Recording file.now result }
 {
     match recording_for::<S>(alloc, file) {
         Ok(recorded) => record_again::<S, O, P>(alloc, file, &recorded, out, progress),
@@ -255,6 +270,8 @@ fn record_again<S: Suite, O: Output, P: Progress>(
     ensures fault { O.failed out.new ≡ write_failed (O.failed out.old) result }
     ensures written { IfErr result (λ e. e ≢ Fault.Read) }
     ensures reports { ReportsRun P.reports recorded.now progress.old progress.new result }
+    ensures cut { StopsBehindRun O.contents out.old out.new P.reports progress.old progress.new
+        recorded.now result }
 {
     match value_in(alloc, file) {
         Ok(value) => {
@@ -281,6 +298,10 @@ pub fn print_view<S: Suite, O: Output, P: Progress>(
     ensures written { IfErr result (λ e. e ≢ Fault.Read) }
     // Each action of the recording is reported once, in order; on a fault those that were done before.
     ensures reports { ReportsFile P.reports S.crypto file.now progress.old progress.new result }
+    // At a fault what is printed is that of the actions that are reported, and of the next one: of replies
+    // a part of its lines, of all else nothing unless all are reported.
+    ensures cut { StopsFile O.contents out.old out.new P.reports progress.old progress.new
+        S.crypto view file.now result }
 {
     match view {
         ReplayView::Replies => print_replay::<S, O, P>(alloc, file, out, progress),

@@ -2,6 +2,7 @@
 
 ghost use Rattle.std.specs.Prelude.{◌≡◌, ◌≢◌, ◌≤◌, length, IfOk, IfErr, option_copied};
 ghost use Rattle.mls_cli_text.specs.InputOutput.{write_failed};
+ghost use Rattle.mls_cli_replay.specs.Faults.{StopsBehindAll};
 ghost use Rattle.mls_cli_replay.specs.MemberTree.{IsTreeOf, IsTreeOn, MakesTree, PrintsTree};
 ghost use Rattle.mls_cli_replay.specs.Message.{digits_text};
 ghost use Rattle.mls_cli_replay.specs.Progress.{Reports};
@@ -81,6 +82,9 @@ pub fn print_tree<S: Suite, O: Output, P: Progress>(
     ensures fault { O.failed out.new ≡ write_failed (O.failed out.old) result }
     ensures written { IfErr result (λ e. e ≢ Fault.Read) }
     ensures reports { Reports P.reports (length recorded.now) progress.old progress.new result }
+    // Nothing is printed before all actions are reported.
+    ensures cut { StopsBehindAll O.contents out.old out.new P.reports progress.old progress.new
+        recorded.now result }
 {
     let mut world = World::<S>::new(alloc);
     do_actions(alloc, &mut world, recorded, progress)?;

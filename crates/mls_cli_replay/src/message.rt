@@ -5,6 +5,7 @@ ghost use Rattle.mls_cli_replay.specs.Actions.{DoesAll};
 ghost use Rattle.mls_cli_replay.specs.Progress.{DoesPart, Reports};
 ghost use Rattle.mls_cli_text.specs.InputOutput.{write_failed};
 ghost use Rattle.mls_cli_replay.specs.DigitsLaws.{digits_nonempty};
+ghost use Rattle.mls_cli_replay.specs.Faults.{StopsBehindAll};
 ghost use Rattle.mls_cli_replay.specs.Message.{MakesDigits, PrintsFound, digits_text};
 ghost use Rattle.mls_cli_replay.specs.Replay.{actions_of};
 
@@ -96,6 +97,9 @@ pub fn print_message<S: Suite, O: Output, P: Progress>(
     ensures fault { O.failed out.new ≡ write_failed (O.failed out.old) result }
     ensures written { IfErr result (λ e. e ≢ Fault.Read) }
     ensures reports { Reports P.reports (length recorded.now) progress.old progress.new result }
+    // Nothing is printed before all actions are reported.
+    ensures cut { StopsBehindAll O.contents out.old out.new P.reports progress.old progress.new
+        recorded.now result }
 {
     let mut world = World::<S>::new(alloc);
     do_actions(alloc, &mut world, recorded, progress)?;

@@ -3,6 +3,7 @@
 ghost use Rattle.std.specs.Prelude.{◌≡◌, ◌≢◌, ◌≤◌, ◌++◌, length, map, option_map, IfOk, IfErr, OnOk};
 ghost use Rattle.mls_cli_text.specs.InputOutput.{write_failed};
 ghost use Rattle.mls_cli_replay.specs.Actions.{DoesAll};
+ghost use Rattle.mls_cli_replay.specs.Faults.{StopsBehindRun};
 ghost use Rattle.mls_cli_replay.specs.Progress.{DoesPart, Reports, ReportsRun};
 ghost use Rattle.mls_cli_replay.specs.Quiet.{CollectsUnmet, PrintsQuiet, quiet_action};
 ghost use Rattle.mls_cli_replay.specs.Replay.{actions_of, entry_of};
@@ -81,6 +82,9 @@ pub fn play_quietly<S: Suite, O: Output, P: Progress>(
     ensures fault { O.failed out.new ≡ write_failed (O.failed out.old) result }
     ensures written { IfErr result (λ e. e ≢ Fault.Read) }
     ensures reports { ReportsRun P.reports recorded.now progress.old progress.new result }
+    // Nothing is printed before all actions are reported.
+    ensures cut { StopsBehindRun O.contents out.old out.new P.reports progress.old progress.new
+        recorded.now result }
 {
     let mut world = World::<S>::new(alloc);
     let unmet = collect_unmet(alloc, &mut world, recorded.actions.as_slice(), progress)?;

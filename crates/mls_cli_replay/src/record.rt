@@ -3,6 +3,7 @@
 ghost use Rattle.std.specs.Prelude.{◌≡◌, ◌≢◌, ◌≤◌, length, map, string_bytes, IfOk, IfErr};
 ghost use Rattle.mls_cli_text.specs.InputOutput.{write_failed};
 ghost use Rattle.mls_cli_replay.specs.Actions.{outcomes, DoesAll};
+ghost use Rattle.mls_cli_replay.specs.Faults.{StopsBehindAll};
 ghost use Rattle.mls_cli_replay.specs.Progress.{DoesPart, Reports};
 ghost use Rattle.mls_cli_replay.specs.RecordLaws.{file_text_nonempty};
 ghost use Rattle.mls_cli_replay.specs.RecordedReplies.{MakesRecord, PrintsRecordOf, file_text, words_of_members};
@@ -109,6 +110,9 @@ pub fn print_record<S: Suite, O: Output, P: Progress>(
     ensures fault { O.failed out.new ≡ write_failed (O.failed out.old) result }
     ensures written { IfErr result (λ e. e ≢ Fault.Read) }
     ensures reports { Reports P.reports (length recorded.now) progress.old progress.new result }
+    // Nothing is printed before all actions are reported.
+    ensures cut { StopsBehindAll O.contents out.old out.new P.reports progress.old progress.new
+        recorded.now result }
 {
     let mut world = World::<S>::new(alloc);
     let replies = collect_replies(alloc, &mut world, recorded, progress)?;

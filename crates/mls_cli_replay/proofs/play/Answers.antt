@@ -7,6 +7,7 @@ use Rattle.mls_cli_replay.proofs.Closing.{closing, text_from}
 use Rattle.mls_cli_replay.proofs.Ending.{texts_lent}
 use Rattle.mls_cli_replay.proofs.Playing.{said}
 use Rattle.mls_cli_replay.proofs.Reporting.{reports_done, reports_front}
+use Rattle.mls_cli_replay.proofs.AtFault.{stops_along, stops_ending}
 use Rattle.mls_cli_replay.proofs.play.Goals as goal
 
 pub returns-in_err-met-clause-prints : goal.returns-in_err-met-clause-prints
@@ -43,3 +44,13 @@ returns-in_err-same-clause-reports g c = reports_done g.P.Progress.reports (leng
 
 pub returns-clause-reports : goal.returns-clause-reports
 returns-clause-reports g c = rw c.as_slice.ensures.value at c.in_ok-met.ensures.reports
+
+pub returns-in_err-met-clause-cut : goal.returns-in_err-met-clause-cut
+returns-in_err-met-clause-cut g c =
+    stops_along g.P.Progress.reports g.S.Suite.crypto c.args.recorded.now.actions.items _ _ c.new-world.result c.play_actions.new.world _ _ c.from_residual.result c.new-world.ensures
+    (rw c.as_slice.ensures.value at c.in_err-met.ensures.cut)
+
+pub returns-in_err-same-clause-cut : goal.returns-in_err-same-clause-cut
+returns-in_err-same-clause-cut g c =
+    stops_ending g.P.Progress.reports g.S.Suite.crypto c.args.recorded.now.actions.items _ _ c.new-world.result _ (g.O.Output.contents c.play_actions.new.out) _ _ c.from_residual-in_err-same.result c.new-world.ensures
+    (rw c.as_slice.ensures.value at c.in_ok-met.ensures.reports) (rw c.as_slice.ensures.value at c.in_ok-met.ensures.whole) c.in_err-same.ensures.part

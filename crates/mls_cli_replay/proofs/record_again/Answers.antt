@@ -1,4 +1,4 @@
-use Rattle.std.proofs.Common.{arith, inl, refl}
+use Rattle.std.proofs.Common.{arith, inl, inr, refl}
 use Rattle.std.proofs.KnownBytes.{Keeps-refl}
 use Rattle.serde_json.specs.View.{view}
 use Rattle.mls_cli_text.specs.Page.{Printout}
@@ -21,3 +21,9 @@ returns-in-Ok-clause-reports g c = rw c.as_slice.ensures.value at c.print_record
 pub returns-in-Err-clause-reports : goal.returns-in-Err-clause-reports
 unfolding ReportsFirst
 returns-in-Err-clause-reports g c = (0, omega arith, refl)
+
+pub returns-in-Ok-clause-cut : goal.returns-in-Ok-clause-cut
+returns-in-Ok-clause-cut g c = rw c.as_slice.ensures.value at c.print_record.ensures.cut
+
+pub returns-in-Err-clause-cut : goal.returns-in-Err-clause-cut
+returns-in-Err-clause-cut g c = inr (refl, Keeps-refl _)

@@ -3,6 +3,8 @@ use Rattle.mls_cli_recording.specs.declared.reading.RecordedRun.{RecordedRun}
 use Rattle.mls_cli_replay.specs.RecordedReplies.{IsRecord}
 use Rattle.mls_cli_replay.proofs.Viewing.{of_recording, prints_as, refusal_printed}
 use Rattle.mls_cli_replay.proofs.Reporting.{refusal_reported, run_reported}
+use Rattle.mls_cli_replay.specs.declared.view.ReplayView.TheVariants as view
+use Rattle.mls_cli_replay.proofs.AtFault.{refusal_stops, run_stops}
 use Rattle.mls_cli_replay.proofs.replay_record.Goals as goal
 
 pub returns-in-Ok-clause-prints : goal.returns-in-Ok-clause-prints
@@ -22,3 +24,10 @@ returns-in-Ok-clause-reports g c = run_reported g.P.Progress.reports g.S.Suite.c
 pub returns-in-Err-clause-reports : goal.returns-in-Err-clause-reports
 returns-in-Err-clause-reports g c =
     refusal_reported g.P.Progress.reports g.S.Suite.crypto c.args.file.now c.in-Err.error _ _ _ c.print_error.result c.in-Err.ensures c.print_error.ensures.prints
+
+pub returns-in-Ok-clause-cut : goal.returns-in-Ok-clause-cut
+returns-in-Ok-clause-cut g c = run_stops g.P.Progress.reports g.S.Suite.crypto view.Recording c.args.file.now c.in-Ok.recorded _ _ _ _ c.record_again.result c.in-Ok.ensures c.record_again.ensures.cut
+
+pub returns-in-Err-clause-cut : goal.returns-in-Err-clause-cut
+returns-in-Err-clause-cut g c =
+    refusal_stops g.P.Progress.reports g.S.Suite.crypto view.Recording c.args.file.now c.in-Err.error _ _ _ c.print_error.result c.in-Err.ensures c.print_error.ensures.prints c.print_error.ensures.memory

@@ -4,6 +4,7 @@ use Rattle.mls_cli_replay.specs.Actions.{run_all}
 use Rattle.mls_cli_replay.specs.Replay.{actions_of}
 use Rattle.mls_cli_replay.proofs.Viewing.{kept_one, tree_printed}
 use Rattle.mls_cli_replay.proofs.Reporting.{reports_done, reports_front}
+use Rattle.mls_cli_replay.proofs.AtFault.{stops_behind, stops_with}
 use Rattle.mls_cli_replay.proofs.member_tree.print_tree.Goals as goal
 
 pub returns-in_err-do_actions-clause-prints : goal.returns-in_err-do_actions-clause-prints
@@ -21,3 +22,10 @@ returns-in_err-do_actions-clause-reports g c =
 
 pub returns-clause-reports : goal.returns-clause-reports
 returns-clause-reports g c = reports_done g.P.Progress.reports (length c.args.recorded.now) _ _ c.print_made_page.result c.in_ok-do_actions.ensures.reports
+
+pub returns-in_err-do_actions-clause-cut : goal.returns-in_err-do_actions-clause-cut
+returns-in_err-do_actions-clause-cut g c =
+    stops_with g.P.Progress.reports (length c.args.recorded.now) _ _ _ c.from_residual.result _ c.in_err-do_actions.ensures.fault c.from_residual.ensures.1
+
+pub returns-clause-cut : goal.returns-clause-cut
+returns-clause-cut g c = stops_behind g.P.Progress.reports (length c.args.recorded.now) _ _ _ _ c.print_made_page.result c.in_ok-do_actions.ensures.reports

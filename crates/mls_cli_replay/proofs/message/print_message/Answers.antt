@@ -2,6 +2,7 @@ use Rattle.std.proofs.Common.{length}
 use Rattle.mls_cli_replay.proofs.FoundMessages.{found_prints, nothing_prints}
 use Rattle.mls_cli_replay.proofs.Messages.{page_from}
 use Rattle.mls_cli_replay.proofs.Reporting.{reports_done, reports_front}
+use Rattle.mls_cli_replay.proofs.AtFault.{stops_behind, stops_with}
 use Rattle.mls_cli_replay.proofs.message.print_message.Goals as goal
 
 pub returns-in_err-do_actions-clause-prints : goal.returns-in_err-do_actions-clause-prints
@@ -19,3 +20,10 @@ returns-in_err-do_actions-clause-reports g c =
 
 pub returns-clause-reports : goal.returns-clause-reports
 returns-clause-reports g c = reports_done g.P.Progress.reports (length c.args.recorded.now) _ _ c.print_made_page.result c.in_ok-do_actions.ensures.reports
+
+pub returns-in_err-do_actions-clause-cut : goal.returns-in_err-do_actions-clause-cut
+returns-in_err-do_actions-clause-cut g c =
+    stops_with g.P.Progress.reports (length c.args.recorded.now) _ _ _ c.from_residual.result _ c.in_err-do_actions.ensures.fault c.from_residual.ensures.1
+
+pub returns-clause-cut : goal.returns-clause-cut
+returns-clause-cut g c = stops_behind g.P.Progress.reports (length c.args.recorded.now) _ _ _ _ c.print_made_page.result c.in_ok-do_actions.ensures.reports

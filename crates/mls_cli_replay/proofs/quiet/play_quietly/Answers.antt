@@ -12,6 +12,7 @@ use Rattle.mls_cli_replay.proofs.Ending.{texts_lent}
 use Rattle.mls_cli_replay.proofs.FoundMessages.{nothing_prints}
 use Rattle.mls_cli_replay.proofs.Quietly.{quiet_from, quiet_status, quiet_text}
 use Rattle.mls_cli_replay.proofs.Reporting.{reports_done, reports_front}
+use Rattle.mls_cli_replay.proofs.AtFault.{stops_before, stops_behind}
 use Rattle.mls_cli_replay.proofs.quiet.play_quietly.Goals as goal
 
 pub returns-in_err-unmet-clause-prints : goal.returns-in_err-unmet-clause-prints
@@ -76,3 +77,14 @@ returns-in_err-same-clause-reports g c = reports_done g.P.Progress.reports (leng
 
 pub returns-clause-reports : goal.returns-clause-reports
 returns-clause-reports g c = rw c.as_slice.ensures.value at c.in_ok-unmet.ensures.reports
+
+pub returns-in_err-unmet-clause-cut : goal.returns-in_err-unmet-clause-cut
+returns-in_err-unmet-clause-cut g c = stops_before g.P.Progress.reports (length c.args.recorded.now.actions.items) _ _ _ c.from_residual.result c.from_residual.ensures.1
+
+pub returns-in_err-print_lines-clause-cut : goal.returns-in_err-print_lines-clause-cut
+returns-in_err-print_lines-clause-cut g c =
+    stops_behind g.P.Progress.reports (length c.args.recorded.now.actions.items) _ _ _ _ c.from_residual-in_err-print_lines.result (rw c.as_slice.ensures.value at c.in_ok-unmet.ensures.reports)
+
+pub returns-in_err-same-clause-cut : goal.returns-in_err-same-clause-cut
+returns-in_err-same-clause-cut g c =
+    stops_behind g.P.Progress.reports (length c.args.recorded.now.actions.items) _ _ _ _ c.from_residual-in_err-same.result (rw c.as_slice.ensures.value at c.in_ok-unmet.ensures.reports)

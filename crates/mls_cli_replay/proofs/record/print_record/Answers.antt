@@ -8,6 +8,7 @@ use Rattle.mls_cli_replay.specs.Replay.{actions_of}
 use Rattle.mls_cli_replay.proofs.Viewing.{kept_one, record_printed}
 use Rattle.mls_cli_replay.proofs.Wording.{texts_from}
 use Rattle.mls_cli_replay.proofs.Reporting.{reports_done, reports_front}
+use Rattle.mls_cli_replay.proofs.AtFault.{stops_before, stops_behind}
 use Rattle.mls_cli_replay.proofs.record.print_record.Goals as goal
 
 pub returns-in_err-replies-clause-prints : goal.returns-in_err-replies-clause-prints
@@ -36,3 +37,12 @@ returns-in_err-lines-clause-reports g c = reports_done g.P.Progress.reports (len
 
 pub returns-clause-reports : goal.returns-clause-reports
 returns-clause-reports g c = reports_done g.P.Progress.reports (length c.args.recorded.now) _ _ c.print_made_page.result c.in_ok-replies.ensures.reports
+
+pub returns-in_err-replies-clause-cut : goal.returns-in_err-replies-clause-cut
+returns-in_err-replies-clause-cut g c = stops_before g.P.Progress.reports (length c.args.recorded.now) _ _ _ c.from_residual.result c.from_residual.ensures.1
+
+pub returns-in_err-lines-clause-cut : goal.returns-in_err-lines-clause-cut
+returns-in_err-lines-clause-cut g c = stops_behind g.P.Progress.reports (length c.args.recorded.now) _ _ _ _ c.from_residual-in_err-lines.result c.in_ok-replies.ensures.reports
+
+pub returns-clause-cut : goal.returns-clause-cut
+returns-clause-cut g c = stops_behind g.P.Progress.reports (length c.args.recorded.now) _ _ _ _ c.print_made_page.result c.in_ok-replies.ensures.reports
