@@ -57,10 +57,6 @@ module _ {P : Type 0} (reports : P → P → ℕ → ℕ → Type 0) (all : ℕ)
 
 -- ---- of a file
 
-same_at : {X : Type 0} (r : Result ℕ Fault) → X → IfErr r (λ (e : Fault). X)
-same_at (Ok x) y = tt
-same_at (Err e) y = y
-
 module _ {P : Type 0} (reports : P → P → ℕ → ℕ → Type 0) (c : Crypto) (asked : ReplayView) (file : List ℕ) where
   pub run_stops : (run : RecordedRun) (told now : P) (old new : Option (List ℕ)) (r : Result ℕ Fault) → recording c.number file ≡ Ok (recording_view run)
       → IfErr r (λ (e : Fault). StopsView reports c asked run.actions.items told now old new e) → IfErr r (λ (e : Fault). StopsRecording reports c asked (recording c.number file) told now old new e)
@@ -77,5 +73,7 @@ module _ {P : Type 0} (reports : P → P → ℕ → ℕ → Type 0) (c : Crypto
   pub refusal_stops : (e : JsonError) (p : P) (old new : Option (List ℕ)) (r : Result ℕ Fault) → (number_of e ≢ 1 → recording c.number file ≡ Err (number_of e))
       → PrintsOne (IsRefusal e) old new r → StopsUnread e r → IfErr r (λ (f : Fault). StopsRecording reports c asked (recording c.number file) p p old new f)
   refusal_stops error.OutOfMemory p old new r is prints ends = unread (recording c.number file) p old new r prints ends
-  refusal_stops error.NotHex p old new r is prints ends = rw (is (λ q. omega arith)) (same_at r refl)
-  refusal_stops error.BadJson p old new r is prints ends = rw (is (λ q. omega arith)) (same_at r refl)
+  refusal_stops error.NotHex p old new (Ok x) is prints ends = tt
+  refusal_stops error.NotHex p old new (Err f) is prints ends = rw (is (λ q. omega arith)) refl
+  refusal_stops error.BadJson p old new (Ok x) is prints ends = tt
+  refusal_stops error.BadJson p old new (Err f) is prints ends = rw (is (λ q. omega arith)) refl

@@ -298,8 +298,8 @@ pub fn print_view<S: Suite, O: Output, P: Progress>(
     ensures written { IfErr result (λ e. e ≢ Fault.Read) }
     // Each action of the recording is reported once, in order; on a fault those that were done before.
     ensures reports { ReportsFile P.reports S.crypto file.now progress.old progress.new result }
-    // At a fault what is printed is that of the actions that are reported, and of the next one: of replies
-    // a part of its lines, of all else nothing unless all are reported.
+    // At a fault the replies that are out are those of the reported actions and a part of the next one's,
+    // and nothing else is out before all are reported.
     ensures cut { StopsFile O.contents out.old out.new P.reports progress.old progress.new
         S.crypto view file.now result }
 {
