@@ -267,12 +267,12 @@ entry_of (code.Missing member text) = missing member text.now
 entry_of (code.NotExpected member) = not_expected member
 
 -- a text that is borrowed, if there is one
-abbrev pub lent : Option (Bor (List ℕ)) → Option (List ℕ)
-lent text = option_map (λ (t : Bor (List ℕ)). t.now) text
+abbrev pub lent_text : Option (Bor (List ℕ)) → Option (List ℕ)
+lent_text text = option_map (λ (t : Bor (List ℕ)). t.now) text
 
 -- what is printed of the text that was expected
 abbrev pub expected_text : ℕ → Option (Bor (List ℕ)) → List ℕ
-expected_text action expect = flat_map entry_text (expected_entries action (lent expect))
+expected_text action expect = flat_map entry_text (expected_entries action (lent_text expect))
 
 -- Where it succeeds, a call writes it.
 abbrev pub SaysExpected : {O T E : Type 0} → (O → Option (List ℕ)) → O → O → ℕ →
@@ -288,7 +288,7 @@ BeginsExpected contents old new action expect result =
 
 -- what is printed of an action
 abbrev pub said_text : ℕ → Outcome → Option (Bor (List ℕ)) → List ℕ
-said_text action outcome expect = flat_map entry_text (action_entries action outcome (lent expect))
+said_text action outcome expect = flat_map entry_text (action_entries action outcome (lent_text expect))
 
 -- what is printed of members
 abbrev pub members_text : List Seat → List ℕ
@@ -304,7 +304,7 @@ text_at texts k = option_map string_bytes (slice_get texts k)
 
 -- what is said where a borrowed line, if there is one, isn't the one that is expected, if one is
 abbrev pub difference_by : ℕ → Option (Bor (List ℕ)) → Option (Bor (List ℕ)) → Option ReplayEntry
-difference_by k words text = difference k (lent words) (lent text)
+difference_by k words text = difference k (lent_text words) (lent_text text)
 
 -- the line for a number, where that of the member isn't the text
 abbrev pub DiffersAt : {E : Type 0} → List Seat → List (List ℕ) → ℕ →

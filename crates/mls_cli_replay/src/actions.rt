@@ -1,10 +1,10 @@
 //! Actions, done and printed one by one.
 
-ghost use Rattle.std.specs.Prelude.{◌≡◌, ◌≢◌, length, IfOk, IfErr, OnOk, option_map};
+ghost use Rattle.std.specs.Prelude.{◌≡◌, ◌≢◌, length, IfOk, IfErr, OnOk};
 ghost use Rattle.mls_cli_text.specs.InputOutput.{write_failed, Writes, WritesPart};
 ghost use Rattle.mls_cli_replay.specs.Actions.{events_in, outcome_in, world_after, DoesAll, RunsPart};
 ghost use Rattle.mls_cli_replay.specs.Progress.{Reports};
-ghost use Rattle.mls_cli_replay.specs.Replay.{Begins, BeginsAll, BeginsExpected, Ends, Says, SaysAll, SaysExpected, Stops, actions_of, all_meet, said_text, is_met, meets};
+ghost use Rattle.mls_cli_replay.specs.Replay.{Begins, BeginsAll, BeginsExpected, Ends, Says, SaysAll, SaysExpected, Stops, actions_of, all_meet, is_met, lent_text, meets, said_text};
 
 use crate::deliveries::deliver_to_all;
 use crate::line::ReplayLine;
@@ -18,7 +18,7 @@ use std::alloc::{AllocError, Global};
 
 /// Whether the text of what an action came to is as expected.
 pub fn is_met(alloc: Global, outcome: Outcome, expect: Option<&str>) -> Result<bool, AllocError>
-    ensures { IfOk result (λ met. met ≡ is_met outcome (option_map (λ t. t.now) expect.entry)) }
+    ensures { IfOk result (λ met. met ≡ is_met outcome (lent_text expect.entry)) }
 {
     match expect {
         Some(text) => {
@@ -55,7 +55,7 @@ fn print_outcome<O: Output>(
     expect: Option<&str>,
     out: &mut O,
 ) -> Result<bool, Fault>
-    ensures met { IfOk result (λ met. met ≡ is_met outcome (option_map (λ t. t.now) expect.entry)) }
+    ensures met { IfOk result (λ met. met ≡ is_met outcome (lent_text expect.entry)) }
     ensures whole { Writes O.contents out.old out.new
         (said_text action outcome expect.entry) result }
     ensures part { WritesPart O.contents out.old out.new

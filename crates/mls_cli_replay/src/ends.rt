@@ -2,7 +2,7 @@
 
 ghost use Rattle.std.specs.Prelude.{◌≡◌, ◌≢◌, ◌<◌, ◌++◌, length, map, max, IfOk, IfErr, OnOk, Some, option_map, option_to_list, string_bytes};
 ghost use Rattle.mls_cli_text.specs.InputOutput.{write_failed, Writes, WritesPart};
-ghost use Rattle.mls_cli_replay.specs.Replay.{difference_by, end_text, ends_as_expected, entry_of, is_line, line_at, text_at, texts_of, DiffersAt, SayDifferences};
+ghost use Rattle.mls_cli_replay.specs.Replay.{difference_by, end_text, ends_as_expected, entry_of, is_line, lent_text, line_at, text_at, texts_of, DiffersAt, SayDifferences};
 
 use crate::line::{ReplayLine, line_words};
 use crate::members::{member_line, print_members};
@@ -31,7 +31,7 @@ fn words_at<S: Suite>(
 
 /// Whether these words, if there are any, are the text.
 fn is_line(words: Option<&str>, text: &str) -> bool
-    ensures { result ≡ is_line (option_map (λ t. t.now) words.entry) text.now }
+    ensures { result ≡ is_line (lent_text words.entry) text.now }
 {
     match words {
         Some(words) => words.as_bytes() == text.as_bytes(),

@@ -1,12 +1,12 @@
 //! The actions whose texts aren't as expected, and the end of a replay.
 
-ghost use Rattle.std.specs.Prelude.{◌≡◌, ◌≢◌, ◌≤◌, ◌++◌, length, map, option_map, IfOk, IfErr, OnOk};
+ghost use Rattle.std.specs.Prelude.{◌≡◌, ◌≢◌, ◌≤◌, ◌++◌, length, map, IfOk, IfErr, OnOk};
 ghost use Rattle.mls_cli_text.specs.InputOutput.{write_failed};
 ghost use Rattle.mls_cli_replay.specs.Actions.{DoesAll};
 ghost use Rattle.mls_cli_replay.specs.Faults.{StopsBehindRun};
 ghost use Rattle.mls_cli_replay.specs.Progress.{DoesPart, Reports, ReportsRun};
 ghost use Rattle.mls_cli_replay.specs.Quiet.{CollectsUnmet, PrintsQuiet, quiet_action};
-ghost use Rattle.mls_cli_replay.specs.Replay.{actions_of, entry_of};
+ghost use Rattle.mls_cli_replay.specs.Replay.{actions_of, entry_of, lent_text};
 
 use crate::actions::{do_action, is_met};
 use crate::ends::print_end;
@@ -29,7 +29,7 @@ fn push_unmet<'a>(
     expect: Option<&'a str>,
 ) -> Result<(), AllocError>
     ensures { OnOk result (map entry_of lines.new.items ≡ map entry_of lines.old.items
-        ++ quiet_action action outcome (option_map (λ t. t.now) expect.entry)) }
+        ++ quiet_action action outcome (lent_text expect.entry)) }
 {
     if is_met(alloc, outcome, expect)? {
         return Ok(());
