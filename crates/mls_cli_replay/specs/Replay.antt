@@ -288,7 +288,8 @@ BeginsExpected contents old new action expect result =
 
 -- what is printed of an action
 abbrev pub said_text : ℕ → Outcome → Option (Bor (List ℕ)) → List ℕ
-said_text action outcome expect = flat_map entry_text (action_entries action outcome (lent_text expect))
+said_text action outcome expect =
+    flat_map entry_text (action_entries action outcome (lent_text expect))
 
 -- what is printed of members
 abbrev pub members_text : List Seat → List ℕ
