@@ -1,0 +1,7 @@
+pub mod Options
+pub mod Tables
+pub mod Arrays
+pub mod Loops
+pub mod EventLaws
+pub mod VectorLaws
+pub mod FileLaws
