@@ -11,6 +11,7 @@
 //! Both answers are `Printed`, as lines `name: value`.
 #![tactic(auto)]
 
+mod breach;
 mod commit;
 mod file;
 mod group;
@@ -19,7 +20,9 @@ mod located;
 mod message;
 mod place;
 mod public;
+mod repeats;
 mod rules;
+mod sent;
 mod step;
 mod text;
 mod tree;
@@ -30,6 +33,7 @@ pub use file::{Whole, place_of_file};
 pub use message::{place_of_message, place_of_tree};
 pub use place::{Path, Place};
 pub use rules::{first_incapable, first_misplaced, first_unfit, first_unsigned};
+pub use sent::{breach_of_file, breach_of_group_info};
 pub use step::{GroupField, LeafField, MessageField, Step};
 pub use tree_place::TreePlace;
 
