@@ -1,6 +1,7 @@
 -- Which node or leaf breaks the rule of a ratchet tree that a file is refused by (RFC 9420, 7.3 and 12.4.3).
-use Rattle.std.specs.Prelude.{◌≡◌, ◌==◌, ◌/◌, ℕ, Bool, true, false, if◌then◌else◌, List, length, Option, Some, None, option_map, option_and_then}
+use Rattle.std.specs.Prelude.{◌≡◌, ◌==◌, ◌/◌, nat_lt, ℕ, Bool, true, false, if◌then◌else◌, List, length, Option, Some, None, option_map, option_and_then}
 use Rattle.std.specs.Result.{result_ok}
+use Rattle.hex.specs.Hex.{decode_of}
 use Rattle.mls_leaf.specs.Faults.{whole}
 use Rattle.mls_leaf.specs.Limits.{input_limit}
 use Rattle.mls_leaf.specs.declared.node.Node.{Node}
@@ -11,7 +12,9 @@ use Rattle.mls_tree_model.specs.Arrays.{from_nodes}
 use Rattle.mls_tree_model.specs.Term.{Term, width}
 use Rattle.mls_types.specs.GroupInfo.{ratchet_tree}
 use Rattle.mls_types.specs.declared.group_info.GroupInfo.{GroupInfo}
-use Rattle.mls_cli_check.specs.GroupInfo.{group_info_in, suite_among}
+use Rattle.mls_types.specs.Message.{mls_message}
+use Rattle.mls_types.specs.declared.message.MlsMessage.{MlsMessage}
+use Rattle.mls_types.specs.declared.message.MlsMessage.TheVariants as message
 use Rattle.mls_cli_place.specs.declared.breach.Rule.{Rule}
 use Rattle.mls_cli_place.specs.declared.breach.Rule.TheVariants as rule
 use Rattle.mls_cli_place.specs.declared.tree_place.TreePlace.{TreePlace}
@@ -66,14 +69,38 @@ FindsBreach c group (Some rule) (Some xs) found = IsBreach c group xs rule found
 abbrev pub nodes_of : Option (List ℕ) → Option (List (Option Node))
 nodes_of bytes = option_and_then (λ spelled. result_ok (whole ratchet_tree input_limit spelled)) bytes
 
+-- the group's id that hex digits stand for, where they do and it isn't longer than an input
+abbrev pub id_within : List ℕ → Option (List ℕ)
+id_within id = if nat_lt input_limit (length id) then None else Some id
+
+abbrev pub group_in : List ℕ → Option (List ℕ)
+group_in text = option_and_then id_within (result_ok (decode_of text))
+
 -- for the group with this id, if there is one
 abbrev pub FindsFor : Crypto → Option (List ℕ) → Option Rule → Option (List (Option Node)) → Option TreePlace → Type 0
 FindsFor c None rule nodes found = found ≡ None
 FindsFor c (Some group) rule nodes found = FindsBreach c group rule nodes found
 
+-- the GroupInfo that a message is
+abbrev pub info_in : MlsMessage → Option GroupInfo
+info_in (message.GroupInfo info) = Some info
+info_in (message.PublicMessage v) = None
+info_in (message.Welcome v) = None
+info_in (message.KeyPackage v) = None
+
+abbrev pub spelled_info : List ℕ → Option GroupInfo
+spelled_info spelled = option_and_then info_in (result_ok (whole mls_message input_limit spelled))
+
 -- the GroupInfo that the bytes of a file spell, if it has bytes and they spell one
 abbrev pub info_of : Option (List ℕ) → Option GroupInfo
-info_of bytes = option_and_then (λ spelled. result_ok (group_info_in spelled)) bytes
+info_of bytes = option_and_then spelled_info bytes
+
+-- the one of two suites that its context names (RFC 9420, 8.1)
+abbrev pub suite_among : Crypto → Crypto → GroupInfo → Option Crypto
+suite_among c d info =
+    if info.group_context.cipher_suite == c.number then Some c
+    else if info.group_context.cipher_suite == d.number then Some d
+    else None
 
 -- for the group of its context
 abbrev pub FindsUnder : GroupInfo → Option Rule → Option Crypto → Option TreePlace → Type 0
@@ -84,4 +111,4 @@ FindsUnder info rule (Some c) found =
 -- under the one of two suites that its context names
 abbrev pub FindsInInfo : Crypto → Crypto → Option Rule → Option GroupInfo → Option TreePlace → Type 0
 FindsInInfo c d rule None found = found ≡ None
-FindsInInfo c d rule (Some info) found = FindsUnder info rule (result_ok (suite_among c d info)) found
+FindsInInfo c d rule (Some info) found = FindsUnder info rule (suite_among c d info) found

@@ -8,9 +8,7 @@ ghost use Rattle.mls_leaf.specs.Limits.{input_limit};
 ghost use Rattle.mls_checks.specs.Short.{IsShort};
 ghost use Rattle.mls_types.specs.GroupInfo.{group_info, ratchet_tree};
 ghost use Rattle.mls_cli_text.specs.Form.{bytes_of_file};
-ghost use Rattle.mls_cli_check.specs.Check.{group_in};
-ghost use Rattle.mls_cli_check.specs.GroupInfo.{group_info_in};
-ghost use Rattle.mls_cli_place.specs.Breach.{FindsBreach, FindsFor, FindsInInfo, info_of, nodes_of, rule_of};
+ghost use Rattle.mls_cli_place.specs.Breach.{FindsBreach, FindsFor, FindsInInfo, group_in, info_of, nodes_of, rule_of, spelled_info};
 
 use crate::breach::{breach_of_rule, rule_of};
 use crate::tree_place::TreePlace;
@@ -39,9 +37,8 @@ fn nodes_in(alloc: Global, bytes: &[u8]) -> Result<Option<RatchetTree>, AllocErr
 }
 
 /// The GroupInfo that the bytes spell, if they spell one.
-#[tactic(auto, unfolding(mls_cli_check::specs::GroupInfo::group_info_in))]
 fn info_in(alloc: Global, bytes: &[u8]) -> Result<Option<GroupInfo>, AllocError>
-    ensures info { IfOk result (λ info. info ≡ result_ok (group_info_in bytes.now)) }
+    ensures info { IfOk result (λ info. info ≡ spelled_info bytes.now) }
     ensures short { IfOk result (λ info. IfSome info (λ v. IsShort group_info v)) }
 {
     match MlsMessage::decode(alloc, bytes) {
@@ -57,10 +54,9 @@ fn info_in(alloc: Global, bytes: &[u8]) -> Result<Option<GroupInfo>, AllocError>
 }
 
 /// The group's id that a text of hex digits stands for, if it is one.
-#[tactic(auto, unfolding(mls_cli_check::specs::Check::group_in))]
 fn group_in(alloc: Global, text: &str) -> Result<Option<Vec<u8>>, AllocError>
     ensures id { IfOk result (λ id. option_map (λ v. v.items) id
-        ≡ result_ok (group_in text.now)) }
+        ≡ group_in text.now) }
     ensures short { IfOk result (λ id. IfSome id (λ v. length v.items < 2 ^ 28)) }
 {
     match hex::decode(alloc, text) {
@@ -103,7 +99,7 @@ fn breach_in_bytes<S: Suite>(
     group: &str,
     number: u8,
 ) -> Result<Option<TreePlace>, AllocError>
-    ensures { IfOk result (FindsFor S.crypto (result_ok (group_in group.now)) (rule_of number)
+    ensures { IfOk result (FindsFor S.crypto (group_in group.now) (rule_of number)
         (nodes_of (Some bytes.now))) }
 {
     let Some(group_id) = group_in(alloc, group)? else {
@@ -124,7 +120,7 @@ pub fn breach_of_file<S: Suite>(
     group: &str,
     number: u8,
 ) -> Result<Option<TreePlace>, AllocError>
-    ensures { IfOk result (FindsFor S.crypto (result_ok (group_in group.now)) (rule_of number)
+    ensures { IfOk result (FindsFor S.crypto (group_in group.now) (rule_of number)
         (nodes_of (bytes_of_file form text.now))) }
 {
     match form {
@@ -138,7 +134,6 @@ pub fn breach_of_file<S: Suite>(
 }
 
 /// The first place of a GroupInfo's tree, under the one of two suites that it names.
-#[tactic(auto, unfolding(mls_cli_check::specs::GroupInfo::suite_among))]
 fn breach_in_info<S: Suite, T: Suite>(
     alloc: Global,
     info: &GroupInfo,
