@@ -2,5 +2,5 @@ pub mod Firsts
 pub mod Inputs
 pub mod Items
 pub mod Members
-pub mod Repeats
+pub mod Repeating
 pub mod Short
