@@ -2,3 +2,5 @@ pub mod Firsts
 pub mod Inputs
 pub mod Items
 pub mod Members
+pub mod Repeating
+pub mod Short

@@ -1,12 +1,15 @@
 -- Where a ratchet tree first breaks a rule that is asked of each member or of each node alone (RFC 9420, 7.3).
-use Rattle.std.specs.Prelude.{◌≡◌, ℕ, ◌%◌, ◌==◌, ◌<◌, slice_index_or, Bool, true, false, List, Option, Some, None, MatchOption}
+use Rattle.std.specs.Prelude.{◌≡◌, ℕ, ◌+◌, ◌%◌, ◌==◌, ◌<◌, take, slice_index_or, Bool, true, false, List, Option, None, MatchOption}
 use Rattle.std.specs.List.{list_all}
 use Rattle.mls_leaf.specs.declared.node.Node.{Node}
 use Rattle.mls_checks.specs.Leaf.{is_capable, is_signed}
 use Rattle.mls_suite.specs.Crypto.{Crypto}
 use Rattle.mls_tree_array.specs.CellKeys.{cell_keys}
+use Rattle.mls_tree_index.specs.Keys.{keys_of}
+use Rattle.mls_tree_index.specs.declared.kind.KeyKind.{KeyKind}
 use Rattle.mls_tree_model.specs.Arrays.{may_stand}
 use Rattle.mls_tree_model.specs.Keys.{passes}
+use Rattle.mls_tree_model.specs.Sets.{is_distinct, same_bytes}
 use Rattle.mls_tree_model.specs.Term.{Term, leaf_of}
 
 -- each number below n passes a test
@@ -39,3 +42,7 @@ node_stands xs x = may_stand (x % 2 == 0) (slice_index_or xs x None)
 -- whether a rule of the whole tree holds: it does just where no number was found
 abbrev pub TellsRule : Bool → Option ℕ → Type 0
 TellsRule holds found = MatchOption found (holds ≡ true) (λ _. holds ≡ false)
+
+-- 25 and 26: no two of the nodes up to node x, of those that are sent, have one key of this kind
+abbrev pub has_new_key : KeyKind → List (Option Node) → ℕ → Bool
+has_new_key kind xs x = is_distinct same_bytes (keys_of kind (take (x + 1) xs))

@@ -1,7 +1,7 @@
 //! Where ratchet trees break rules that are asked of each member or of each node alone.
 
 use super::*;
-use mls_cli_text::Printed;
+use mls_cli_text::{Form, Printed};
 use mls_leaf::Codec;
 use mls_suite::Glass;
 use mls_tree::PublicTree;
@@ -92,5 +92,73 @@ fn prints_places_in_trees(rt: HostRuntime) -> Result<(), Fail> {
     assert_eq!(rt; node.as_str(), "node: 131070\n");
     let leaf = String::from_utf8(TreePlace::Leaf(65_535).text_bytes(alloc)?)?;
     assert_eq!(rt; leaf.as_str(), "leaf: 65535\n");
+    Ok(())
+}
+
+/// Two members with the same keys.
+const TWINS: &str =
+    "40770101204b4b4b4b4b4b4b4b4b4b4b4b4b4b4b4b4b4b4b4b4b4b4b4b4b4b4b4b4b4b4b4b0153000102696402\
+     000102f0010000020001020003736967000101204b4b4b4b4b4b4b4b4b4b4b4b4b4b4b4b4b4b4b4b4b4b4b4b4b\
+     4b4b4b4b4b4b4b0153000102696402000102f0010000020001020003736967";
+
+/// A GroupInfo of a group whose member has a key that isn't fit.
+const GROUP_INFO: &str =
+    "000100040001f0010167000000000000000101740004f00301652000021d1c010101450153000102696402000102\
+     f00100000200010200037369670163000000000173";
+
+/// The line of a place, or `none`.
+fn place_text(alloc: Global, place: Option<TreePlace>) -> Result<String, Fail> {
+    match place {
+        Some(place) => Ok(String::from_utf8(place.text_bytes(alloc)?)?),
+        None => Ok(String::from_str(alloc, "none\n")?),
+    }
+}
+
+#[test]
+fn finds_breaches(rt: HostRuntime) -> Result<(), Fail> {
+    let alloc = rt.alloc();
+    let table = [
+        (TWINS, "", 20, "none\n"),
+        (TWINS, "", 25, "node: 2\n"),
+        (TWINS, "", 26, "leaf: 1\n"),
+        (TWINS, "", 51, "leaf: 0\n"),
+        (TWINS, "", 52, "none\n"),
+        (TWINS, "", 36, "none\n"),
+        (TWINS, "", 23, "none\n"),
+        (TWINS, "6", 25, "none\n"),
+        ("00", "", 25, "none\n"),
+        ("03000000", "", 51, "none\n"),
+        ("06010201700000", "", 20, "node: 0\n"),
+        ("06010201700000", "", 36, "node: 0\n"),
+        ("zz", "", 36, "none\n"),
+    ];
+    for (file, group, number, wanted) in table {
+        let place = breach_of_file::<Glass>(alloc, Form::Hex, file.as_bytes(), group, number)?;
+        let text = place_text(alloc, place)?;
+        assert_eq!(rt; text.as_str(), wanted, "for {file} and {number}");
+    }
+    Ok(())
+}
+
+#[test]
+fn finds_breaches_in_group_infos(rt: HostRuntime) -> Result<(), Fail> {
+    let alloc = rt.alloc();
+    let table = [
+        (GROUP_INFO, 25, "none\n"),
+        (GROUP_INFO, 36, "node: 0\n"),
+        (GROUP_INFO, 51, "leaf: 0\n"),
+        (GROUP_INFO, 76, "none\n"),
+        (TWINS, 25, "none\n"),
+    ];
+    for (file, number, wanted) in table {
+        let place = breach_of_group_info::<Glass, Glass>(
+            alloc,
+            Form::Hex,
+            file.as_bytes(),
+            number,
+        )?;
+        let text = place_text(alloc, place)?;
+        assert_eq!(rt; text.as_str(), wanted, "for {file} and {number}");
+    }
     Ok(())
 }
