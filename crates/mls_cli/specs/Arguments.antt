@@ -17,7 +17,7 @@ use Rattle.mls_cli_check.specs.declared.drawing.TreeSource.{TreeSource}
 use Rattle.mls_cli_check.specs.declared.drawing.TreeSource.TheVariants as source
 use Rattle.mls_cli_explain.specs.Explanations.{explanation_view}
 use Rattle.mls_cli.specs.ExplainArguments.{explain_rule, lacking, told_on, unless_asked}
-use Rattle.mls_cli.specs.Options.{flag_rule, number_in, number_rule}
+use Rattle.mls_cli.specs.Options.{flag_rule, number_in}
 use Rattle.mls_cli.specs.Drawings.{drawing_by, is_plain, with_drawing_rules}
 use Rattle.mls_cli.specs.ReplayArguments.{progress_by, view_by, with_picture_rules, with_progress_rule, with_view_rules}
 use Rattle.mls_cli.specs.declared.tasks.NoJob.{NoJob}

@@ -1,5 +1,5 @@
 -- What a served job leaves.
-use Rattle.std.specs.Prelude.{◌≡◌, ◌≤◌, ◌⊎◌, ◌++◌, ℕ, suc, nat_lt, Bool, true, false, if◌then◌else◌, List, [], length, take, codes, Option, Some, None, Result, Ok, Err, IfOk, IfErr, IfSome, OnOk, OnErr, string_bytes}
+use Rattle.std.specs.Prelude.{◌≡◌, ◌≤◌, ◌⊎◌, ◌++◌, ℕ, suc, nat_lt, Bool, true, false, if◌then◌else◌, List, [], length, take, codes, Option, Some, None, Result, Ok, IfSome, OnOk, OnErr, string_bytes}
 use Rattle.std.specs.Io.KnownBytes.{Appends, Keeps}
 use Rattle.mls_suite.specs.Crypto.{Crypto}
 use Rattle.mls_suite.specs.Glass.{glass}
