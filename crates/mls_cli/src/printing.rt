@@ -95,7 +95,10 @@ fn object_of(
 ) -> Result<Page<JsonText>, AllocError>
     ensures { MakesObject made result }
 {
-    json_page(alloc, &made?)
+    match made {
+        Ok(page) => json_page(alloc, &page),
+        Err(error) => Err(error),
+    }
 }
 
 /// Prints a page of lines, where there was memory for it.

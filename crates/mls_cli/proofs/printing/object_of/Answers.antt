@@ -7,6 +7,9 @@ use Rattle.mls_cli_json_page.specs.JsonPage.{json_page, text_of}
 use Rattle.mls_cli_json_page.specs.declared.JsonText.{JsonText}
 use Rattle.mls_cli.proofs.printing.object_of.Goals as goal
 
-pub returns : goal.returns
-returns c = λ page is.
-    subst (λ (own : Page Entry). IfOk c.json_page.result (λ (p : code.Page JsonText). page_of text_of p ≡ json_page own)) is c.json_page.ensures
+pub returns-in-Ok : goal.returns-in-Ok
+returns-in-Ok c = rw c.in-Ok.is (λ page is.
+    subst (λ (own : Page Entry). IfOk c.json_page.result (λ (p : code.Page JsonText). page_of text_of p ≡ json_page own)) is c.json_page.ensures)
+
+pub returns-in-Err : goal.returns-in-Err
+returns-in-Err c = λ page is. tt
