@@ -3,10 +3,10 @@ _mls() {
     local word="${COMP_WORDS[COMP_CWORD]}" options=""
     case "${COMP_WORDS[1]}" in
         show)
-            options="--full --raw --help"
+            options="--full --raw --json --help"
             ;;
         check)
-            options="--suite --group --signatures --group-info --raw --draw --width --svg --help"
+            options="--suite --group --signatures --group-info --raw --json --draw --width --svg --help"
             ;;
         replay)
             options="--suite --message --tree --quiet --record --draw --width --svg --progress --help"

@@ -1,11 +1,10 @@
 -- What a job reads of a file is enough for what it prints.
-use Rattle.std.proofs.Common.{◌≡◌, ℕ, suc, ◌<◌, ◌≤◌, nat_lt, true, false, List, length, take, Option, Some, None, Result, Ok, Err, IfSome, inl, inr, refl, sym, ◌∙◌, ap, subst, arith}
+use Rattle.std.proofs.Common.{◌≡◌, ℕ, suc, ◌<◌, ◌≤◌, nat_lt, true, false, List, length, take, Option, Some, None, Result, Ok, Err, IfSome, inl, inr, sym, ◌∙◌, ap, subst, arith}
 use Rattle.std.proofs.lemmas.Bool.{cases_lt, cond-true, cond-false, lt-ltb, le-ltb}
 use Rattle.std.proofs.lemmas.List.{length-take-le, take_all}
 use Rattle.mls_cli_text.specs.Form.{file_limit}
 use Rattle.mls_cli_text.specs.declared.form.Form.{Form}
 use Rattle.mls_cli_text.specs.Page.{Page, Printout, printout, refused}
-use Rattle.mls_cli_text.specs.Text.{line_text}
 use Rattle.mls_cli_text.specs.declared.fault.Fault.{Fault}
 use Rattle.mls_cli_show.specs.Show.{page_of as show_page}
 use Rattle.mls_cli_check.specs.Check.{check_page}
@@ -17,6 +16,7 @@ use Rattle.mls_cli_check.specs.GroupInfo.{group_info_page}
 use Rattle.mls_cli_draw.specs.Picture.{row_text}
 use Rattle.mls_suite.specs.Glass.{glass}
 use Rattle.mls_cli.specs.declared.tasks.SuiteChoice.TheVariants as choice
+use Rattle.mls_cli.specs.Layouts.{lines_printout}
 use Rattle.mls_cli.specs.Serving.{IsPrintout, checking, file_page, read_of}
 
 pub long_page : {E : Type 0} (form : Form) (text : List ℕ) (page : Page E) → file_limit form < length text → file_page form text page ≡ refused 6
@@ -35,11 +35,12 @@ page_of_front form text page =
     ]
 
 same_printout : (j : Job) (text : List ℕ) (p : Printout) → IsPrintout j (read_of j text) p → IsPrintout j text p
-same_printout (job.Show file form detail) text p is = is ∙ ap (printout line_text) (page_of_front form text (show_page detail form))
-same_printout (job.Check file form suite signatures group) text p is =
-    is ∙ ap (printout line_text) (page_of_front form text (λ own. check_page (checking suite signatures) form own group.now))
-same_printout (job.CheckGroupInfo file form signatures) text p is =
-    is ∙ ap (printout line_text) (page_of_front form text (group_info_page glass (checking choice.Suite0001 signatures) form))
+same_printout (job.Show file form detail layout) text p is =
+    is ∙ ap (lines_printout layout) (page_of_front form text (show_page detail form))
+same_printout (job.Check file form suite signatures group layout) text p is =
+    is ∙ ap (lines_printout layout) (page_of_front form text (λ own. check_page (checking suite signatures) form own group.now))
+same_printout (job.CheckGroupInfo file form signatures layout) text p is =
+    is ∙ ap (lines_printout layout) (page_of_front form text (group_info_page glass (checking choice.Suite0001 signatures) form))
 same_printout (job.Draw file form source drawing) text p is =
     is ∙ ap (printout row_text) (page_of_front form text (draw_page source drawing form))
 same_printout (job.Replay file suite view progress) text p is = is

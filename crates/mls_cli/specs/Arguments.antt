@@ -1,5 +1,5 @@
 -- What the command line of `mls` is, and which job the matches of its words name.
-use Rattle.std.specs.Prelude.{◌≡◌, ◌≢◌, ◌⊎◌, ℕ, Bool, List, [], ◌∷◌, codes, map, Option, Some, None, option_and_then, option_map, unwrap_or, if◌then◌else◌, true, false}
+use Rattle.std.specs.Prelude.{◌≡◌, ◌≢◌, ◌⊎◌, ◌&&◌, ℕ, Bool, List, [], ◌∷◌, codes, map, Option, Some, None, option_and_then, option_map, unwrap_or, if◌then◌else◌, true, false}
 use Rattle.std.specs.Borrow.{Bor}
 use Rattle.std.specs.Str.{bytes_eq}
 use Rattle.clap.specs.Words.{App, Row, fault_of, matches_of, subcommand_of, Rule, Text, first_of, new_app, new_rule, with_rule, with_subcommand}
@@ -17,7 +17,7 @@ use Rattle.mls_cli_check.specs.declared.drawing.TreeSource.{TreeSource}
 use Rattle.mls_cli_check.specs.declared.drawing.TreeSource.TheVariants as source
 use Rattle.mls_cli_explain.specs.Explanations.{explanation_view}
 use Rattle.mls_cli.specs.ExplainArguments.{explain_rule, lacking, told_on, unless_asked}
-use Rattle.mls_cli.specs.Options.{flag_rule, number_in, number_rule}
+use Rattle.mls_cli.specs.Options.{flag_rule, number_in}
 use Rattle.mls_cli.specs.Drawings.{drawing_by, is_plain, with_drawing_rules}
 use Rattle.mls_cli.specs.ReplayArguments.{progress_by, view_by, with_picture_rules, with_progress_rule, with_view_rules}
 use Rattle.mls_cli.specs.declared.tasks.NoJob.{NoJob}
@@ -26,6 +26,8 @@ use Rattle.mls_cli.specs.declared.tasks.Job.{Job}
 use Rattle.mls_cli.specs.declared.tasks.Job.TheVariants.{Show, Check, CheckGroupInfo, Draw, Replay, DrawMember, Vectors}
 use Rattle.mls_cli.specs.declared.tasks.ProgressChoice.{ProgressChoice}
 use Rattle.mls_cli.specs.declared.tasks.ProgressChoice.TheVariants.{OnTerminal}
+use Rattle.mls_cli.specs.declared.tasks.Layout.{Layout}
+use Rattle.mls_cli.specs.declared.tasks.Layout.TheVariants.{Json, Lines}
 use Rattle.mls_cli.specs.declared.tasks.SuiteChoice.{SuiteChoice}
 use Rattle.mls_cli.specs.declared.tasks.SuiteChoice.TheVariants.{Glass, Suite0001}
 
@@ -44,23 +46,32 @@ suite_rule = record (new_rule (codes "SUITE")) { long = Some (codes "suite"); de
 abbrev pub group_rule : Rule
 group_rule = record (new_rule (codes "HEX")) { long = Some (codes "group") }
 
--- `show`, which takes a FILE and two flags
+-- a flag --json
+abbrev pub json_rule : Rule
+json_rule = flag_rule (codes "json")
+
+-- `show`, which takes a FILE and three flags
 abbrev pub show_app : App
-show_app = with_rule (with_rule (file_app (codes "show")) (flag_rule (codes "full"))) (flag_rule (codes "raw"))
+show_app =
+    with_rule
+    (with_rule (with_rule (file_app (codes "show")) (flag_rule (codes "full"))) (flag_rule (codes "raw")))
+    json_rule
 
 -- a flag --draw, and the options of drawings
 abbrev pub with_draw_rules : App → App
 with_draw_rules app = with_drawing_rules (with_rule app (flag_rule (codes "draw")))
 
--- `check`, which takes a FILE, two options and three flags, and those of drawings
+-- `check`, which takes a FILE, two options and four flags, and those of drawings
 abbrev pub check_app : App
 check_app =
     with_draw_rules
     (with_rule
     (with_rule
+    (with_rule
     (with_rule (with_rule (with_rule (file_app (codes "check")) suite_rule) group_rule) (flag_rule (codes "signatures")))
     (flag_rule (codes "group-info")))
     (flag_rule (codes "raw")))
+    json_rule)
 
 -- `replay`, which takes a FILE, a suite and what is asked for
 abbrev pub replay_app : App
@@ -90,18 +101,20 @@ name_program (first ∷ rest) = codes "mls" ∷ rest
 
 -- a job without where it lies in memory
 pub data Task : Type 0 where
-  show : Text → Form → Detail → Task
-  check : Text → Form → SuiteChoice → Bool → Text → Task
-  check_group_info : Text → Form → Bool → Task
+  show : Text → Form → Detail → Layout → Task
+  check : Text → Form → SuiteChoice → Bool → Text → Layout → Task
+  check_group_info : Text → Form → Bool → Layout → Task
   draw : Text → Form → TreeSource → Drawing → Task
   replay : Text → SuiteChoice → ReplayView → ProgressChoice → Task
   draw_member : Text → SuiteChoice → ℕ → Drawing → ProgressChoice → Task
   vectors : Text → Task
 
 abbrev pub task_view : Job → Task
-task_view (Show file form detail) = show file.now form detail
-task_view (Check file form suite signatures group) = check file.now form suite signatures group.now
-task_view (CheckGroupInfo file form signatures) = check_group_info file.now form signatures
+task_view (Show file form detail layout) = show file.now form detail layout
+task_view (Check file form suite signatures group layout) =
+    check file.now form suite signatures group.now layout
+task_view (CheckGroupInfo file form signatures layout) =
+    check_group_info file.now form signatures layout
 task_view (Draw file form source drawing) = draw file.now form source drawing
 task_view (Replay file suite view progress) = replay file.now suite view progress
 task_view (DrawMember file suite member drawing progress) =
@@ -128,27 +141,36 @@ form_of raw = if is_given raw then Raw else Hex
 abbrev pub detail_of : Option Text → Detail
 detail_of full = if is_given full then Full else Brief
 
-abbrev pub show_on : Option Text → Option Text → Text → Task
-show_on full raw file = show file (form_of raw) (detail_of full)
+-- one JSON object is printed where --json is given
+abbrev pub layout_of : Option Text → Layout
+layout_of json = if is_given json then Json else Lines
+
+abbrev pub show_on : Option Text → Option Text → Option Text → Text → Task
+show_on full raw json file = show file (form_of raw) (detail_of full) (layout_of json)
 
 -- a tree's group has the empty id where --group isn't given
-abbrev pub tree_task : Form → SuiteChoice → Bool → Option Text → Text → Task
-tree_task form suite signatures group file = check file form suite signatures (unwrap_or group [])
+abbrev pub tree_task : Form → SuiteChoice → Bool → Option Text → Layout → Text → Task
+tree_task form suite signatures group layout file =
+    check file form suite signatures (unwrap_or group []) layout
 
-abbrev pub check_task : Bool → Form → SuiteChoice → Bool → Option Text → Text → Task
-check_task info form suite signatures group file =
-    if info then check_group_info file form signatures else tree_task form suite signatures group file
+abbrev pub check_task : Bool → Form → SuiteChoice → Bool → Option Text → Layout → Text → Task
+check_task info form suite signatures group layout file =
+    if info then check_group_info file form signatures layout
+    else tree_task form suite signatures group layout file
 
 -- there is no such job where the suite has another name
-abbrev pub check_on : Option Text → Option Text → Option Text → Option Text → Option Text → Text → Option Task
-check_on info raw suite signatures group file =
-    option_map (λ s. check_task (is_given info) (form_of raw) s (is_given signatures) group file) (option_and_then suite_of suite)
+abbrev pub check_on : Option Text → Option Text → Option Text → Option Text → Option Text → Layout
+    → Text → Option Task
+check_on info raw suite signatures group layout file =
+    option_map (λ s. check_task (is_given info) (form_of raw) s (is_given signatures) group layout file)
+    (option_and_then suite_of suite)
 
 -- a tree is drawn in place of its check
 abbrev pub drawn : Drawing → Task → Task
-drawn drawing (check file form suite signatures group) = draw file form source.Tree drawing
-drawn drawing (check_group_info file form signatures) = draw file form source.GroupInfo drawing
-drawn drawing (show file form detail) = show file form detail
+drawn drawing (check file form suite signatures group layout) = draw file form source.Tree drawing
+drawn drawing (check_group_info file form signatures layout) =
+    draw file form source.GroupInfo drawing
+drawn drawing (show file form detail layout) = show file form detail layout
 drawn drawing (draw file form source old) = draw file form source old
 drawn drawing (replay file suite view progress) = replay file suite view progress
 drawn drawing (draw_member file suite member old progress) =
@@ -167,6 +189,14 @@ drawn_or_not false drawing task = undrawn drawing task
 abbrev pub drawn_if : Bool → Option Drawing → Option Task → Option Task
 drawn_if asked drawing task =
     option_and_then (λ d. option_and_then (λ t. drawn_or_not asked d t) task) drawing
+
+-- a drawing has no members: there is no such job where it is to be JSON too
+abbrev pub without_json : Bool → Option Drawing → Option Drawing
+without_json both drawing = if both then None else drawing
+
+-- both a drawing and a JSON object are asked for
+abbrev pub draws_json : List Row → Bool
+draws_json rows = is_given (first_of (codes "draw") rows) && is_given (first_of (codes "json") rows)
 
 -- how a tree is drawn, by the values of the options
 abbrev pub drawing_on : List Row → Option Drawing
@@ -207,12 +237,15 @@ replay_on suite member drawing view progress file =
 
 abbrev pub task_on : Text → List Row → Text → Option Task
 task_on name rows file =
-    if bytes_eq name (codes "show") then Some (show_on (first_of (codes "full") rows) (first_of (codes "raw") rows) file)
+    if bytes_eq name (codes "show")
+    then Some (show_on (first_of (codes "full") rows) (first_of (codes "raw") rows)
+    (first_of (codes "json") rows) file)
     else if bytes_eq name (codes "check")
-    then drawn_if (is_given (first_of (codes "draw") rows)) (drawing_on rows)
+    then drawn_if (is_given (first_of (codes "draw") rows))
+    (without_json (draws_json rows) (drawing_on rows))
     (check_on (first_of (codes "group-info") rows) (first_of (codes "raw") rows)
     (first_of (codes "SUITE") rows) (first_of (codes "signatures") rows)
-    (first_of (codes "HEX") rows) file)
+    (first_of (codes "HEX") rows) (layout_of (first_of (codes "json") rows)) file)
     else if bytes_eq name (codes "replay")
     then replay_on (first_of (codes "SUITE") rows)
     (option_and_then number_in (first_of (codes "MEMBER") rows)) (drawing_on rows) (view_on rows)
@@ -226,9 +259,9 @@ task_of found = option_and_then
     (λ p. option_and_then (task_on p.0 p.1) (first_of (codes "FILE") p.1)) found
 
 abbrev pub file_of : Job → Text
-file_of (Show file form detail) = file.now
-file_of (Check file form suite signatures group) = file.now
-file_of (CheckGroupInfo file form signatures) = file.now
+file_of (Show file form detail layout) = file.now
+file_of (Check file form suite signatures group layout) = file.now
+file_of (CheckGroupInfo file form signatures layout) = file.now
 file_of (Draw file form source drawing) = file.now
 file_of (Replay file suite view progress) = file.now
 file_of (DrawMember file suite member drawing progress) = file.now
@@ -238,9 +271,9 @@ file_of (Vectors file) = file.now
 abbrev pub progress_of : Job → ProgressChoice
 progress_of (Replay file suite view progress) = progress
 progress_of (DrawMember file suite member drawing progress) = progress
-progress_of (Show file form detail) = OnTerminal
-progress_of (Check file form suite signatures group) = OnTerminal
-progress_of (CheckGroupInfo file form signatures) = OnTerminal
+progress_of (Show file form detail layout) = OnTerminal
+progress_of (Check file form suite signatures group layout) = OnTerminal
+progress_of (CheckGroupInfo file form signatures layout) = OnTerminal
 progress_of (Draw file form source drawing) = OnTerminal
 progress_of (Vectors file) = OnTerminal
 
@@ -322,10 +355,10 @@ task_behind words = task_in (codes "mls" ∷ words)
 
 -- a show, a check and a replay with what stands where no option is given
 abbrev pub plain_show : Text → Task
-plain_show file = show file Hex Brief
+plain_show file = show file Hex Brief Lines
 
 abbrev pub plain_check : Text → Task
-plain_check file = check file Hex Glass false []
+plain_check file = check file Hex Glass false [] Lines
 
 abbrev pub plain_replay : Text → Task
 plain_replay file = replay file Glass Replies OnTerminal
@@ -336,6 +369,16 @@ words_of_check = codes "check" ∷ codes "a" ∷ codes "--suite" ∷ codes "0001
 
 abbrev pub words_of_info : List Text
 words_of_info = codes "check" ∷ codes "--group-info" ∷ codes "--raw" ∷ codes "a" ∷ []
+
+-- a show and a check that print a JSON object, and a drawing that is to be one
+abbrev pub words_of_shown_json : List Text
+words_of_shown_json = codes "show" ∷ codes "--json" ∷ codes "a" ∷ []
+
+abbrev pub words_of_info_json : List Text
+words_of_info_json = codes "check" ∷ codes "a" ∷ codes "--group-info" ∷ codes "--json" ∷ []
+
+abbrev pub words_of_drawn_json : List Text
+words_of_drawn_json = codes "check" ∷ codes "--draw" ∷ codes "--json" ∷ codes "a" ∷ []
 
 -- a drawing of a tree, and one of a GroupInfo's
 abbrev pub words_of_draw : List Text

@@ -4,7 +4,6 @@ use Rattle.std.specs.List.{list_any}
 use Rattle.mls_cli_text.specs.Form.{bytes_of_file, file_limit}
 use Rattle.mls_cli_text.specs.HexFile.{is_blank}
 use Rattle.mls_cli_text.specs.declared.form.Form.{Form}
-use Rattle.mls_cli_text.specs.declared.form.Form.TheVariants.{Hex, Raw}
 
 -- a control character that is no blank, which neither a hex text nor JSON has
 abbrev pub is_control : ℕ → Bool

@@ -6,5 +6,6 @@ pub mod Arguments
 pub mod TreeJobs
 pub mod Hints
 pub mod MemberPicture
+pub mod Layouts
 pub mod Serving
 pub mod Meter

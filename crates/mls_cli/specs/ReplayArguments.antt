@@ -1,5 +1,5 @@
 -- The options of `mls replay`, and what of a recording they ask for.
-use Rattle.std.specs.Prelude.{ℕ, Bool, true, false, ◌||◌, is_some, codes, Option, Some, None, if◌then◌else◌}
+use Rattle.std.specs.Prelude.{ℕ, Bool, true, false, ◌||◌, is_some, codes, Option, Some, None}
 use Rattle.clap.specs.Words.{App, with_rule}
 use Rattle.mls_cli_replay.specs.declared.view.ReplayView.{ReplayView}
 use Rattle.mls_cli_replay.specs.declared.view.ReplayView.TheVariants.{Replies, Unmet, Message, Tree, Recording}

@@ -1,5 +1,5 @@
 -- What a served job leaves.
-use Rattle.std.specs.Prelude.{◌≡◌, ◌≤◌, ◌⊎◌, ◌++◌, ℕ, suc, nat_lt, Bool, true, false, if◌then◌else◌, List, [], length, take, codes, Option, Some, None, Result, Ok, Err, IfOk, IfErr, IfSome, OnOk, OnErr, string_bytes}
+use Rattle.std.specs.Prelude.{◌≡◌, ◌≤◌, ◌⊎◌, ◌++◌, ℕ, suc, nat_lt, Bool, true, false, if◌then◌else◌, List, [], length, take, codes, Option, Some, None, Result, Ok, IfSome, OnOk, OnErr, string_bytes}
 use Rattle.std.specs.Io.KnownBytes.{Appends, Keeps}
 use Rattle.mls_suite.specs.Crypto.{Crypto}
 use Rattle.mls_suite.specs.Glass.{glass}
@@ -28,6 +28,7 @@ use Rattle.mls_cli_draw.specs.Picture.{row_text}
 use Rattle.mls_suite_0001.specs.Suite0001.{suite_0001}
 use Rattle.mls_cli_check.specs.GroupInfo.{group_info_page}
 use Rattle.mls_cli.specs.Hints.{hint}
+use Rattle.mls_cli.specs.Layouts.{lines_printout}
 use Rattle.mls_cli_vectors.specs.VectorsReport.{entry_text, vectors_page}
 use Rattle.mls_cli_text.specs.declared.output.Out.{Out}
 use Rattle.mls_cli.specs.MemberPicture.{IsMemberPicture}
@@ -58,11 +59,14 @@ drawing_printout form source drawing text =
 
 -- what a job prints for a file of this text
 abbrev pub IsPrintout : Job → List ℕ → Printout → Type 0
-IsPrintout (job.Show file form detail) text p = p ≡ printout line_text (file_page form text (show_page detail form text))
-IsPrintout (job.Check file form suite signatures group) text p =
-    p ≡ printout line_text (file_page form text (check_page (checking suite signatures) form text group.now))
-IsPrintout (job.CheckGroupInfo file form signatures) text p =
-    p ≡ printout line_text (file_page form text (group_info_page glass (checking choice.Suite0001 signatures) form text))
+IsPrintout (job.Show file form detail layout) text p =
+    p ≡ lines_printout layout (file_page form text (show_page detail form text))
+IsPrintout (job.Check file form suite signatures group layout) text p =
+    p ≡ lines_printout layout
+    (file_page form text (check_page (checking suite signatures) form text group.now))
+IsPrintout (job.CheckGroupInfo file form signatures layout) text p =
+    p ≡ lines_printout layout
+    (file_page form text (group_info_page glass (checking choice.Suite0001 signatures) form text))
 IsPrintout (job.Draw file form source drawing) text p =
     p ≡ drawing_printout form source drawing text
 IsPrintout (job.Replay file suite view progress) text p = IsView (crypto_of suite) view text p
@@ -72,9 +76,9 @@ IsPrintout (job.Vectors file) text p = p ≡ printout entry_text (vectors_page t
 
 -- what is said on the errors of a file's text, though nothing failed
 abbrev pub remark : Job → List ℕ → List ℕ
-remark (job.Show file form detail) text = hint form text
-remark (job.Check file form suite signatures group) text = hint form text
-remark (job.CheckGroupInfo file form signatures) text = hint form text
+remark (job.Show file form detail layout) text = hint form text
+remark (job.Check file form suite signatures group layout) text = hint form text
+remark (job.CheckGroupInfo file form signatures layout) text = hint form text
 remark (job.Draw file form source drawing) text = hint form text
 remark (job.Replay file suite view progress) text = []
 remark (job.DrawMember file suite member drawing progress) text = []
@@ -156,9 +160,10 @@ EndsWithoutJob no_job.OutOfMemory status out_old out_new written old new failed 
 
 -- what a job reads of a file of this text: no more of a file of bytes than shows that it is too long
 abbrev pub read_of : Job → List ℕ → List ℕ
-read_of (job.Show file form detail) text = take (suc (file_limit form)) text
-read_of (job.Check file form suite signatures group) text = take (suc (file_limit form)) text
-read_of (job.CheckGroupInfo file form signatures) text = take (suc (file_limit form)) text
+read_of (job.Show file form detail layout) text = take (suc (file_limit form)) text
+read_of (job.Check file form suite signatures group layout) text =
+    take (suc (file_limit form)) text
+read_of (job.CheckGroupInfo file form signatures layout) text = take (suc (file_limit form)) text
 read_of (job.Draw file form source drawing) text = take (suc (file_limit form)) text
 read_of (job.Replay file suite view progress) text = text
 read_of (job.DrawMember file suite member drawing progress) text = text
@@ -232,9 +237,10 @@ EndsWith contents old new Remarked file status unreadable written =
 -- a report behind each event of a replay, and no other
 abbrev pub ReportsJob : {P : Type 0} → (P → P → ℕ → ℕ → Type 0) → Job → List ℕ → P → P →
     Result ℕ Fault → Type 0
-ReportsJob reports (job.Show file form detail) text old new result = new ≡ old
-ReportsJob reports (job.Check file form suite signatures group) text old new result = new ≡ old
-ReportsJob reports (job.CheckGroupInfo file form signatures) text old new result = new ≡ old
+ReportsJob reports (job.Show file form detail layout) text old new result = new ≡ old
+ReportsJob reports (job.Check file form suite signatures group layout) text old new result =
+    new ≡ old
+ReportsJob reports (job.CheckGroupInfo file form signatures layout) text old new result = new ≡ old
 ReportsJob reports (job.Draw file form source drawing) text old new result = new ≡ old
 ReportsJob reports (job.Replay file suite view progress) text old new result =
     ReportsFile reports (crypto_of suite) text old new result

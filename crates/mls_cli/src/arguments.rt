@@ -3,18 +3,18 @@
 ghost use Rattle.std.specs.Prelude.{◌≡◌, map, true, false, codes, Ok, Err, Some, None, IfOk, IfErr, IsSome, OnOk, ◌⊎◌, ◌∷◌, [], option_and_then, option_map};
 ghost use Rattle.clap.specs.Words.{app_of, shape_of, first_of, found_of, kind_of, matches_of, rows_of, rule_of, subcommand_of, subcommand_rows_of, takes, fault_of, FailsBy, HasKind};
 ghost use Rattle.clap.specs.declared.Command.TheViews.{out-Command as fields_of};
-ghost use Rattle.mls_cli.specs.Arguments.{ComesOf, ExplainsWords, check, check_group_info, draw, draw_member, drawing_on, faults_behind, found_in, found_rows, given, maybe_task, mls, plain_check, plain_replay, plain_show, recording_task, replay, replay_on, show, task_behind, task_in, task_of, task_on, task_view, vectors, view_on, with_version, words_of_check, words_of_draw, words_of_draw_info, words_of_info, words_of_no_drawing, words_of_no_number, words_of_picture, words_of_picture_and_message, words_of_progress, words_of_quiet, words_of_record, words_of_replay, words_of_svg, words_of_svg_width, words_of_tree, words_of_two_views};
+ghost use Rattle.mls_cli.specs.Arguments.{ComesOf, ExplainsWords, check, check_group_info, draw, draw_member, drawing_on, draws_json, faults_behind, found_in, found_rows, given, maybe_task, mls, plain_check, plain_replay, plain_show, recording_task, replay, replay_on, show, task_behind, task_in, task_of, task_on, task_view, vectors, view_on, with_version, words_of_check, words_of_draw, words_of_draw_info, words_of_drawn_json, words_of_info, words_of_info_json, words_of_no_drawing, words_of_no_number, words_of_picture, words_of_picture_and_message, words_of_progress, words_of_quiet, words_of_record, words_of_replay, words_of_shown_json, words_of_svg, words_of_svg_width, words_of_tree, words_of_two_views};
 ghost use Rattle.mls_cli.specs.ExplainArguments.{unless_asked};
 ghost use Rattle.mls_cli.specs.Options.{number_in};
 ghost use Rattle.mls_cli.specs.TreeJobs.{tree_check_on, tree_job_on};
 
-use crate::check_options::{check_command, check_on, drawn_if, undrawn};
+use crate::check_options::{check_command, check_on, drawn_if, undrawn, without_json};
 use crate::drawing_options::drawing_by;
 use crate::explain_arguments::{explain_arg, without_job};
-use crate::options::{file_command, is_given, number_in, suite_of};
+use crate::options::{file_command, is_given, layout_of, number_in, suite_of};
 use crate::replay_arguments::{progress_by, replay_command, view_by};
 use crate::show_options::{show_command, show_on};
-use crate::tasks::{Job, NoJob, ProgressChoice, SuiteChoice};
+use crate::tasks::{Job, Layout, NoJob, ProgressChoice, SuiteChoice};
 use clap::error::ErrorKind;
 use clap::{ArgMatches, Command, Error};
 use mls_cli_check::{Drawing, TreeSource};
@@ -162,8 +162,16 @@ fn tree_check_on<'a>(matches: &ArgMatches<'a>, file: &'a str) -> Option<Job<'a>>
         value_of(matches, "SUITE"),
         value_of(matches, "signatures"),
         value_of(matches, "HEX"),
+        layout_of(value_of(matches, "json")),
         file,
     )
+}
+
+/// Whether both a drawing and a JSON object are asked for.
+fn draws_json(matches: &ArgMatches<'_>) -> bool
+    ensures { result ≡ draws_json (rows_of (found_of matches.now)) }
+{
+    is_given(value_of(matches, "draw")) && is_given(value_of(matches, "json"))
 }
 
 /// The check of a tree, or its drawing where that is asked for.
@@ -172,7 +180,7 @@ fn tree_job_on<'a>(matches: &ArgMatches<'a>, file: &'a str) -> Option<Job<'a>>
 {
     drawn_if(
         is_given(value_of(matches, "draw")),
-        drawing_on(matches),
+        without_json(draws_json(matches), drawing_on(matches)),
         tree_check_on(matches, file),
     )
 }
@@ -182,7 +190,12 @@ fn job_on<'a>(name: &str, matches: &ArgMatches<'a>, file: &'a str) -> Option<Job
     ensures { maybe_task result ≡ task_on name.now (rows_of (found_of matches.now)) file.entry.now }
 {
     match name {
-        "show" => Some(show_on(value_of(matches, "full"), value_of(matches, "raw"), file)),
+        "show" => Some(show_on(
+            value_of(matches, "full"),
+            value_of(matches, "raw"),
+            value_of(matches, "json"),
+            file,
+        )),
         "check" => tree_job_on(matches, file),
         "replay" => replay_on(
             value_of(matches, "SUITE"),
@@ -272,6 +285,9 @@ fn command_with_suite<'a>(alloc: Global, subcommand: &str) -> Result<Command<'a>
 /// What clap would say of options that exclude one another.
 const TWO_VIEWS: &str = "only one of --message, --tree, --draw, --quiet and --record can be used";
 
+/// What it would say of a drawing that is to be a JSON object.
+const DRAWN_JSON: &str = "only one of --draw and --json can be used";
+
 /// What it would say of options that go with another one, and exclude one another.
 const NO_DRAWING: &str = "only one of --width and --svg can be used, and only with --draw";
 
@@ -290,6 +306,8 @@ fn misuse_in(matches: &ArgMatches<'_>) -> &'static str {
         Some((_, inner)) => {
             if asks_for_two(inner) {
                 TWO_VIEWS
+            } else if draws_json(inner) {
+                DRAWN_JSON
             } else {
                 NO_DRAWING
             }
@@ -402,13 +420,19 @@ pub fn examples()
     ensures missing { faults_behind (codes "show" ∷ []) ≡ ErrorKind.MissingRequiredArgument ∷ [] }
     ensures shows { task_behind (codes "show" ∷ codes "a" ∷ []) ≡ Some (plain_show (codes "a")) }
     ensures shows_all { task_behind (codes "show" ∷ codes "--raw" ∷ codes "a" ∷ codes "--full" ∷ [])
-        ≡ Some (show (codes "a") Form.Raw Detail.Full) }
+        ≡ Some (show (codes "a") Form.Raw Detail.Full Layout.Lines) }
     ensures replays { task_behind (codes "replay" ∷ codes "a" ∷ []) ≡ Some (plain_replay (codes "a")) }
     ensures judges { task_behind (codes "vectors" ∷ codes "a" ∷ []) ≡ Some (vectors (codes "a")) }
     ensures checks { task_behind (codes "check" ∷ codes "a" ∷ []) ≡ Some (plain_check (codes "a")) }
     ensures chosen { task_behind words_of_check
-        ≡ Some (check (codes "a") Form.Hex SuiteChoice.Suite0001 true (codes "67")) }
-    ensures info { task_behind words_of_info ≡ Some (check_group_info (codes "a") Form.Raw false) }
+        ≡ Some (check (codes "a") Form.Hex SuiteChoice.Suite0001 true (codes "67") Layout.Lines) }
+    ensures info { task_behind words_of_info
+        ≡ Some (check_group_info (codes "a") Form.Raw false Layout.Lines) }
+    ensures shows_json { task_behind words_of_shown_json
+        ≡ Some (show (codes "a") Form.Hex Detail.Brief Layout.Json) }
+    ensures info_json { task_behind words_of_info_json
+        ≡ Some (check_group_info (codes "a") Form.Hex false Layout.Json) }
+    ensures drawn_json { task_behind words_of_drawn_json ≡ None }
     ensures draws { task_behind words_of_draw
         ≡ Some (draw (codes "a") Form.Hex TreeSource.Tree (Drawing.Text None)) }
     ensures draws_info { task_behind words_of_draw_info

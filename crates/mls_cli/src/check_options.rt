@@ -3,12 +3,12 @@
 ghost use Rattle.std.specs.Prelude.{◌≡◌, false, IfOk};
 ghost use Rattle.clap.specs.Words.{app_of, rule_of};
 ghost use Rattle.clap.specs.declared.Command.TheViews.{out-Command as fields_of};
-ghost use Rattle.mls_cli.specs.Arguments.{check_app, check_on, drawn, drawn_if, given, group_rule, maybe_task, task_view, tree_task, undrawn, with_draw_rules};
+ghost use Rattle.mls_cli.specs.Arguments.{check_app, check_on, drawn, drawn_if, given, group_rule, maybe_task, task_view, tree_task, undrawn, with_draw_rules, without_json};
 
 use crate::drawing_options::{is_plain, with_drawing_options};
-use crate::options::{file_command, flag_arg, is_given, suite_arg, suite_of};
+use crate::options::{file_command, flag_arg, is_given, json_arg, suite_arg, suite_of};
 use crate::show_options::form_of;
-use crate::tasks::{Job, SuiteChoice};
+use crate::tasks::{Job, Layout, SuiteChoice};
 use clap::{Arg, Command};
 use mls_cli_check::{Drawing, TreeSource};
 use mls_cli_text::Form;
@@ -51,7 +51,8 @@ pub fn check_command<'a>(alloc: Global) -> Result<Command<'a>, AllocError>
     let with_info = with_signatures.arg(info)?;
     let raw = flag_arg(alloc, "raw", "Reads bytes as they are, and not hex");
     let with_raw = with_info.arg(raw)?;
-    with_draw(alloc, with_raw)
+    let with_json = with_raw.arg(json_arg(alloc))?;
+    with_draw(alloc, with_json)
 }
 
 /// The command with a flag to draw, and the options of drawings.
@@ -71,9 +72,11 @@ fn tree_job<'a>(
     suite: SuiteChoice,
     signatures: bool,
     group: Option<&'a str>,
+    layout: Layout,
     file: &'a str,
 ) -> Job<'a>
-    ensures { task_view result ≡ tree_task form suite signatures (given group.entry) file.entry.now }
+    ensures { task_view result
+        ≡ tree_task form suite signatures (given group.entry) layout file.entry.now }
 {
     match group {
         Some(group) => Job::Check {
@@ -82,6 +85,7 @@ fn tree_job<'a>(
             suite,
             signatures,
             group,
+            layout,
         },
         None => Job::Check {
             file,
@@ -89,6 +93,7 @@ fn tree_job<'a>(
             suite,
             signatures,
             group: "",
+            layout,
         },
     }
 }
@@ -100,10 +105,11 @@ pub fn check_on<'a>(
     suite: Option<&str>,
     signatures: Option<&str>,
     group: Option<&'a str>,
+    layout: Layout,
     file: &'a str,
 ) -> Option<Job<'a>>
     ensures { maybe_task result ≡ check_on (given info.entry) (given raw.entry)
-        (given suite.entry) (given signatures.entry) (given group.entry) file.entry.now }
+        (given suite.entry) (given signatures.entry) (given group.entry) layout file.entry.now }
 {
     let suite = suite_of(suite?)?;
     let form = form_of(raw);
@@ -113,9 +119,10 @@ pub fn check_on<'a>(
             file,
             form,
             signatures,
+            layout,
         });
     }
-    Some(tree_job(form, suite, signatures, group, file))
+    Some(tree_job(form, suite, signatures, group, layout, file))
 }
 
 /// A drawing in place of a tree's check, and any other job as it is.
@@ -141,6 +148,13 @@ fn drawn<'a>(drawing: Drawing, job: Job<'a>) -> Job<'a>
         | Job::DrawMember { .. }
         | Job::Vectors { .. } => job,
     }
+}
+
+/// How a tree is drawn, or None where the drawing is to be JSON too.
+pub fn without_json(both: bool, drawing: Option<Drawing>) -> Option<Drawing>
+    ensures { result ≡ without_json both drawing }
+{
+    if both { None } else { drawing }
 }
 
 /// This job, unless it is said how a tree is drawn.

@@ -3,10 +3,10 @@
 ghost use Rattle.std.specs.Prelude.{◌≡◌, false, IfOk};
 ghost use Rattle.clap.specs.Words.{app_of, rule_of};
 ghost use Rattle.clap.specs.declared.Command.TheViews.{out-Command as fields_of};
-ghost use Rattle.mls_cli.specs.Arguments.{file_app, file_rule, given, is_given, suite_of, suite_rule};
+ghost use Rattle.mls_cli.specs.Arguments.{file_app, file_rule, given, is_given, json_rule, layout_of, suite_of, suite_rule};
 ghost use Rattle.mls_cli.specs.Options.{flag_rule, number_in, number_rule};
 
-use crate::tasks::SuiteChoice;
+use crate::tasks::{Layout, SuiteChoice};
 use clap::{Arg, ArgAction, Command};
 use std::alloc::{AllocError, Global};
 
@@ -57,6 +57,14 @@ pub fn flag_arg<'a>(alloc: Global, name: &'a str, help: &'a str) -> Arg<'a>
         .help(help)
 }
 
+/// The flag that asks for a JSON object.
+pub fn json_arg<'a>(alloc: Global) -> Arg<'a>
+    ensures rule { rule_of result ≡ json_rule }
+    ensures local { result.global ≡ false }
+{
+    flag_arg(alloc, "json", "Prints one JSON object in place of lines")
+}
+
 /// An option with a number, with what help says of it.
 pub fn number_arg<'a>(alloc: Global, id: &'a str, name: &'a str, help: &'a str) -> Arg<'a>
     ensures rule { rule_of result ≡ number_rule id.entry.now name.entry.now }
@@ -96,5 +104,16 @@ pub fn is_given(value: Option<&str>) -> bool
     match value {
         Some(text) => text == "true",
         None => false,
+    }
+}
+
+/// How lines are printed, by whether `--json` is given.
+pub fn layout_of(json: Option<&str>) -> Layout
+    ensures { result ≡ layout_of (given json.entry) }
+{
+    if is_given(json) {
+        Layout::Json
+    } else {
+        Layout::Lines
     }
 }

@@ -5,7 +5,7 @@ ghost use Rattle.clap.specs.Words.{app_of};
 ghost use Rattle.clap.specs.declared.Command.TheViews.{out-Command as fields_of};
 ghost use Rattle.mls_cli.specs.Arguments.{form_of, given, detail_of, show_app, show_on, task_view};
 
-use crate::options::{file_command, flag_arg, is_given};
+use crate::options::{file_command, flag_arg, is_given, json_arg, layout_of};
 use crate::tasks::Job;
 use clap::Command;
 use mls_cli_show::Detail;
@@ -30,7 +30,9 @@ pub fn show_command<'a>(alloc: Global) -> Result<Command<'a>, AllocError>
         "Prints each item of a commit, a Welcome and a tree too",
     );
     let with_full = command.arg(full)?;
-    with_full.arg(flag_arg(alloc, "raw", "Reads bytes as they are, and not hex"))
+    let raw = flag_arg(alloc, "raw", "Reads bytes as they are, and not hex");
+    let with_raw = with_full.arg(raw)?;
+    with_raw.arg(json_arg(alloc))
 }
 
 /// How a file has its bytes, by whether `--raw` is given.
@@ -52,12 +54,19 @@ fn detail_of(full: Option<&str>) -> Detail
 }
 
 /// The job that the options and FILE of `show` stand for.
-pub fn show_on<'a>(full: Option<&str>, raw: Option<&str>, file: &'a str) -> Job<'a>
-    ensures { task_view result ≡ show_on (given full.entry) (given raw.entry) file.entry.now }
+pub fn show_on<'a>(
+    full: Option<&str>,
+    raw: Option<&str>,
+    json: Option<&str>,
+    file: &'a str,
+) -> Job<'a>
+    ensures { task_view result
+        ≡ show_on (given full.entry) (given raw.entry) (given json.entry) file.entry.now }
 {
     Job::Show {
         file,
         form: form_of(raw),
         detail: detail_of(full),
+        layout: layout_of(json),
     }
 }

@@ -25,6 +25,15 @@ pub enum ProgressChoice {
     Always,
 }
 
+/// How the lines of a message or of a check are printed.
+#[derive(Clone, Copy, Debug, PartialEq, Eq)]
+pub enum Layout {
+    /// One below the other.
+    Lines,
+    /// As the members of one JSON object.
+    Json,
+}
+
 /// What the program is asked to do, as the words of its command line name it.
 #[derive(Clone, Copy, Debug)]
 pub enum Job<'a> {
@@ -36,6 +45,8 @@ pub enum Job<'a> {
         form: Form,
         /// How much of the message is shown.
         detail: Detail,
+        /// How its lines are printed.
+        layout: Layout,
     },
     /// Check the ratchet tree that a file has.
     Check {
@@ -49,6 +60,8 @@ pub enum Job<'a> {
         signatures: bool,
         /// The group's id, as hex digits.
         group: &'a str,
+        /// How the lines are printed.
+        layout: Layout,
     },
     /// Check the GroupInfo that a file has, and the ratchet tree in it.
     CheckGroupInfo {
@@ -58,6 +71,8 @@ pub enum Job<'a> {
         form: Form,
         /// Whether signatures and forms of keys are checked under 0x0001 too. Under the practice suite they always are.
         signatures: bool,
+        /// How the lines are printed.
+        layout: Layout,
     },
     /// Draw the ratchet tree that a file has.
     Draw {

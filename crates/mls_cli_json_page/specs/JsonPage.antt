@@ -105,6 +105,10 @@ json_ending (Refused n) = Failed
 unfoldable pub json_page : Page Entry → Page (List ℕ)
 json_page page = record { entries = print (page_tokens page) ∷ []; ending = json_ending page.ending }
 
+-- an object as it is printed
+abbrev pub object_line : List ℕ → List ℕ
+object_line object = object ++ codes "\n"
+
 -- ---- of the code's values
 
 abbrev pub text_of : JsonText → List ℕ
@@ -112,7 +116,7 @@ text_of t = t.text.items
 
 -- as it is printed
 abbrev pub printed : JsonText → List ℕ
-printed t = t.text.items ++ codes "\n"
+printed t = object_line (text_of t)
 
 -- these tokens are written behind the others
 abbrev pub WritesAll : {T X : Type 0} → Result T X → Written → Written → List Token → Type 0

@@ -6,7 +6,7 @@ use crate::tests::serve_file;
 use std::test::Fail;
 
 /// A tree of one member, whose leaf is that of its KeyPackage.
-const TREE: &str =
+pub const TREE: &str =
     "40a7010120c5f059e7ec0a74622d2f71a74d40e4c50a434384fbc0eccb3d7c89dfa576595620c2b95b328f34afe182b8d3e80054b9727280b681eeea78f90515fbcee11787ec000101610200010200010000020001010000000000000000ffffffffffffffff004040014dc9c3457505d59687398c8bc0ab426cfac087dc656d23517e91a055c190c2440b4771d9be81064ece0b65c25747b99d6cc758e57130b708e826a555b0160c";
 
 /// The same with another last byte of the signature.

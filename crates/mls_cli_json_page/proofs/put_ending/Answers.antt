@@ -1,4 +1,4 @@
-use Rattle.std.proofs.Common.{◌∷◌, [], ap, codes, sym, List, ℕ}
+use Rattle.std.proofs.Common.{◌∷◌, [], ap, codes, sym}
 use Rattle.json.specs.Token.{key}
 use Rattle.mls_wire.specs.Names.{refusal_name}
 use Rattle.mls_cli_text.specs.declared.page.Ending.TheVariants.{Refused}

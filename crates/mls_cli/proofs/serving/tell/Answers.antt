@@ -1,4 +1,4 @@
-use Rattle.std.proofs.Common.{◌∙◌, Bool, List, [], Option, inl, inr, refl, ap, subst}
+use Rattle.std.proofs.Common.{◌∙◌, Bool, [], inl, inr, refl, ap, subst}
 use Rattle.mls_cli_text.proofs.Pages.{made_prints}
 use Rattle.mls_cli_text.specs.InputOutput.{write_fails}
 use Rattle.mls_cli_text.specs.Text.{entry_of, line_text}

@@ -4,7 +4,7 @@ use Rattle.mls_cli_check.specs.GroupInfo.{group_info_page}
 use Rattle.mls_cli.specs.Serving.{checking}
 use Rattle.mls_cli.specs.declared.tasks.SuiteChoice.TheVariants as choice
 use Rattle.mls_cli.proofs.Reading.{long_page, short_page}
-use Rattle.mls_cli.proofs.serving.info_file.Goals as goal
+use Rattle.mls_cli.proofs.printing.info_file.Goals as goal
 
 pub returns-then-text-limit : goal.returns-then-text-limit
 returns-then-text-limit c =

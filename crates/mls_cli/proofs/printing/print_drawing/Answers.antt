@@ -1,6 +1,6 @@
 use Rattle.mls_cli_text.proofs.Pages.{made_prints}
 use Rattle.mls_cli_draw.specs.Picture.{characters_of, row_text}
-use Rattle.mls_cli.proofs.serving.print_drawing.Goals as goal
+use Rattle.mls_cli.proofs.printing.print_drawing.Goals as goal
 
 pub returns-clause-prints : goal.returns-clause-prints
 returns-clause-prints g c =
