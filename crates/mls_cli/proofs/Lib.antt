@@ -1,4 +1,4 @@
-pub mod Saying
+pub mod SaidPieces
 mod Reading
 mod MemberPicture
 mod Numbers

@@ -1,7 +1,7 @@
 use Rattle.std.proofs.Common.{◌++◌, List, ℕ, codes, subst}
 use Rattle.std.specs.Io.KnownBytes.{Appends}
 use Rattle.mls_cli_text.specs.InputOutput.{AppendsPart}
-use Rattle.mls_cli.proofs.Saying.{err_behind, err_front, ok_behind}
+use Rattle.mls_cli.proofs.SaidPieces.{err_behind, err_front, ok_behind}
 use Rattle.mls_cli.proofs.saying.put_unreadable.Goals as goal
 
 pub returns-in_err-put-clause-part : goal.returns-in_err-put-clause-part
