@@ -22,8 +22,10 @@ pub unsafe extern "C" fn mls_candidate_new(
     candidate: *mut *mut Handle,
 ) -> u32
     ghost asked: { Asked }
-    requires* memory { sem 𝓛 (asked_at (begins_at identity identity_length seed seed_length candidate) asked) }
-    ensures* memory { sem 𝓛 (answered_at CandidateNew 0 (begins_at identity identity_length seed seed_length candidate) asked result) }
+    requires* memory { sem 𝓛 (asked_at
+        (begins_at identity identity_length seed seed_length candidate) asked) }
+    ensures* memory { sem 𝓛 (answered_at CandidateNew 0
+        (begins_at identity identity_length seed seed_length candidate) asked result) }
 {
     run(
         alloc,
@@ -51,7 +53,8 @@ pub unsafe extern "C" fn mls_candidate_key_package(
 ) -> u32
     ghost asked: { Asked }
     requires* memory { sem 𝓛 (asked_at (makes_at candidate message) asked) }
-    ensures* memory { sem 𝓛 (answered_at CandidateKeyPackage 0 (makes_at candidate message) asked result) }
+    ensures* memory { sem 𝓛 (answered_at CandidateKeyPackage 0
+        (makes_at candidate message) asked result) }
 {
     run(
         alloc,
@@ -108,7 +111,8 @@ pub unsafe extern "C" fn mls_candidate_load(
 ) -> u32
     ghost asked: { Asked }
     requires* memory { sem 𝓛 (asked_at (loads_at saved saved_length candidate) asked) }
-    ensures* memory { sem 𝓛 (answered_at CandidateLoad 0 (loads_at saved saved_length candidate) asked result) }
+    ensures* memory { sem 𝓛 (answered_at CandidateLoad 0
+        (loads_at saved saved_length candidate) asked result) }
 {
     run(
         alloc,

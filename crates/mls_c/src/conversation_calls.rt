@@ -20,7 +20,8 @@ pub unsafe extern "C" fn mls_conversation_new(
 ) -> u32
     ghost asked: { Asked }
     requires* memory { sem 𝓛 (asked_at (makes_at member conversation) asked) }
-    ensures* memory { sem 𝓛 (answered_at ConversationNew 0 (makes_at member conversation) asked result) }
+    ensures* memory { sem 𝓛 (answered_at ConversationNew 0
+        (makes_at member conversation) asked result) }
 {
     run(
         alloc,
@@ -55,8 +56,12 @@ pub unsafe extern "C" fn mls_conversation_seal(
     message: *mut *mut Handle,
 ) -> u32
     ghost asked: { Asked }
-    requires* memory { sem 𝓛 (asked_at (seals_at conversation application_data application_data_length authenticated_data authenticated_data_length seed seed_length message) asked) }
-    ensures* memory { sem 𝓛 (answered_at ConversationSeal padding (seals_at conversation application_data application_data_length authenticated_data authenticated_data_length seed seed_length message) asked result) }
+    requires* memory { sem 𝓛 (asked_at
+        (seals_at conversation application_data application_data_length authenticated_data
+        authenticated_data_length seed seed_length message) asked) }
+    ensures* memory { sem 𝓛 (answered_at ConversationSeal padding
+        (seals_at conversation application_data application_data_length authenticated_data
+        authenticated_data_length seed seed_length message) asked result) }
 {
     run(
         alloc,
@@ -87,8 +92,12 @@ pub unsafe extern "C" fn mls_conversation_open(
     sender: *mut u64,
 ) -> u32
     ghost asked: { Asked }
-    requires* memory { sem 𝓛 (asked_at (opens_at conversation message message_length application_data authenticated_data sender) asked) }
-    ensures* memory { sem 𝓛 (answered_at ConversationOpen 0 (opens_at conversation message message_length application_data authenticated_data sender) asked result) }
+    requires* memory { sem 𝓛 (asked_at
+        (opens_at conversation message message_length application_data authenticated_data sender)
+        asked) }
+    ensures* memory { sem 𝓛 (answered_at ConversationOpen 0
+        (opens_at conversation message message_length application_data authenticated_data sender)
+        asked result) }
 {
     run(
         alloc,

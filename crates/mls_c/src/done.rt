@@ -1,7 +1,7 @@
 //! What a call leaves.
 
 ghost use Rattle.std.specs.Prelude.{◌≡◌};
-ghost use Rattle.mls_c.specs.Memory.{IsParted};
+ghost use Rattle.mls_c.specs.Memory.{ArePartsOf};
 
 use crate::held::Held;
 
@@ -39,8 +39,8 @@ pub struct Parts {
 }
 
 /// The parts of an outcome.
-pub(crate) fn parted(outcome: Result<Fruit, u32>) -> Parts
-    ensures { IsParted outcome result }
+pub(crate) fn parts_of(outcome: Result<Fruit, u32>) -> Parts
+    ensures { ArePartsOf outcome result }
 {
     match outcome {
         Ok(fruit) => Parts {

@@ -2,7 +2,6 @@
 //! 0 where it is good; after a refusal its handle is as before.
 #![tactic(auto)]
 
-mod answered;
 mod call;
 mod candidate_calls;
 mod candidates;
@@ -10,6 +9,7 @@ mod commits;
 mod conversation_calls;
 mod conversations;
 mod copying;
+mod dispatch;
 mod done;
 mod error;
 mod given;
@@ -29,7 +29,7 @@ ghost use Rattle.std.specs.Prelude.{◌≡◌};
 ghost use types.Logic.{sem};
 ghost use Rattle.mls_c.specs.Calls.{Copies};
 ghost use Rattle.mls_c.specs.Shown.{shown};
-ghost use Rattle.mls_c.specs.Memory.{Asked, asked_at, answered_at, freed_number, held_at};
+ghost use Rattle.mls_c.specs.Memory.{Asked, asked_at, answered_at, free_answer, held_at};
 ghost use Rattle.mls_c.specs.Passing.{names_at, tells_at};
 ghost use Rattle.mls_c.specs.declared.held.Held.{Held};
 ghost use Rattle.mls_c.specs.declared.call.Call.TheVariants.{BytesLength, BytesAt, RefusalName};
@@ -37,7 +37,7 @@ ghost use Rattle.mls_c.specs.declared.call.Call.TheVariants.{BytesLength, BytesA
 use call::Call;
 use copying::copy_bytes;
 pub use held::Handle;
-use pointer::freed;
+use pointer::free_handle;
 use run::run;
 use std::alloc::Global;
 use std::ptr::{null, null_mut};
@@ -47,9 +47,9 @@ use std::ptr::{null, null_mut};
 pub unsafe extern "C" fn mls_free(alloc: Global, handle: *mut Handle) -> u32
     ghost held: { Held }
     requires* memory { sem 𝓛 (held_at handle held) }
-    ensures { result ≡ freed_number handle }
+    ensures { result ≡ free_answer handle }
 {
-    freed(alloc, handle)
+    free_handle(alloc, handle)
 }
 
 /// Copies bytes into a buffer of just their length: `BufferLength` (135) where it has another, and is as it was.

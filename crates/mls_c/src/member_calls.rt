@@ -23,8 +23,10 @@ pub unsafe extern "C" fn mls_member_create(
     member: *mut *mut Handle,
 ) -> u32
     ghost asked: { Asked }
-    requires* memory { sem 𝓛 (asked_at (gives_at candidate group_id group_id_length seed seed_length member) asked) }
-    ensures* memory { sem 𝓛 (answered_at MemberCreate 0 (gives_at candidate group_id group_id_length seed seed_length member) asked result) }
+    requires* memory { sem 𝓛 (asked_at
+        (gives_at candidate group_id group_id_length seed seed_length member) asked) }
+    ensures* memory { sem 𝓛 (answered_at MemberCreate 0
+        (gives_at candidate group_id group_id_length seed seed_length member) asked result) }
 {
     run(
         alloc,
@@ -54,7 +56,8 @@ pub unsafe extern "C" fn mls_member_join(
 ) -> u32
     ghost asked: { Asked }
     requires* memory { sem 𝓛 (asked_at (takes_at candidate welcome welcome_length member) asked) }
-    ensures* memory { sem 𝓛 (answered_at MemberJoin 0 (takes_at candidate welcome welcome_length member) asked result) }
+    ensures* memory { sem 𝓛 (answered_at MemberJoin 0
+        (takes_at candidate welcome welcome_length member) asked result) }
 {
     run(
         alloc,
@@ -111,7 +114,8 @@ pub unsafe extern "C" fn mls_member_load(
 ) -> u32
     ghost asked: { Asked }
     requires* memory { sem 𝓛 (asked_at (loads_at saved saved_length member) asked) }
-    ensures* memory { sem 𝓛 (answered_at MemberLoad 0 (loads_at saved saved_length member) asked result) }
+    ensures* memory { sem 𝓛 (answered_at MemberLoad 0
+        (loads_at saved saved_length member) asked result) }
 {
     run(
         alloc,
@@ -253,7 +257,8 @@ pub unsafe extern "C" fn mls_member_at(
 ) -> u32
     ghost asked: { Asked }
     requires* memory { sem 𝓛 (asked_at (finds_at member identity signature_key) asked) }
-    ensures* memory { sem 𝓛 (answered_at MemberAt leaf (finds_at member identity signature_key) asked result) }
+    ensures* memory { sem 𝓛 (answered_at MemberAt leaf
+        (finds_at member identity signature_key) asked result) }
 {
     run(
         alloc,
@@ -285,8 +290,10 @@ pub unsafe extern "C" fn mls_member_export(
     secret: *mut *mut Handle,
 ) -> u32
     ghost asked: { Asked }
-    requires* memory { sem 𝓛 (asked_at (gives_at member label label_length context context_length secret) asked) }
-    ensures* memory { sem 𝓛 (answered_at MemberExport secret_length (gives_at member label label_length context context_length secret) asked result) }
+    requires* memory { sem 𝓛 (asked_at
+        (gives_at member label label_length context context_length secret) asked) }
+    ensures* memory { sem 𝓛 (answered_at MemberExport secret_length
+        (gives_at member label label_length context context_length secret) asked result) }
 {
     run(
         alloc,
@@ -317,7 +324,8 @@ pub unsafe extern "C" fn mls_member_process(
 ) -> u32
     ghost asked: { Asked }
     requires* memory { sem 𝓛 (asked_at (follows_at member message message_length effect) asked) }
-    ensures* memory { sem 𝓛 (answered_at MemberProcess 0 (follows_at member message message_length effect) asked result) }
+    ensures* memory { sem 𝓛 (answered_at MemberProcess 0
+        (follows_at member message message_length effect) asked result) }
 {
     run(
         alloc,
@@ -346,8 +354,10 @@ pub unsafe extern "C" fn mls_member_propose_add(
     message: *mut *mut Handle,
 ) -> u32
     ghost asked: { Asked }
-    requires* memory { sem 𝓛 (asked_at (takes_at member key_package key_package_length message) asked) }
-    ensures* memory { sem 𝓛 (answered_at MemberProposeAdd 0 (takes_at member key_package key_package_length message) asked result) }
+    requires* memory { sem 𝓛 (asked_at
+        (takes_at member key_package key_package_length message) asked) }
+    ensures* memory { sem 𝓛 (answered_at MemberProposeAdd 0
+        (takes_at member key_package key_package_length message) asked result) }
 {
     run(
         alloc,
@@ -377,7 +387,8 @@ pub unsafe extern "C" fn mls_member_propose_update(
 ) -> u32
     ghost asked: { Asked }
     requires* memory { sem 𝓛 (asked_at (takes_at member seed seed_length message) asked) }
-    ensures* memory { sem 𝓛 (answered_at MemberProposeUpdate 0 (takes_at member seed seed_length message) asked result) }
+    ensures* memory { sem 𝓛 (answered_at MemberProposeUpdate 0
+        (takes_at member seed seed_length message) asked result) }
 {
     run(
         alloc,
@@ -406,7 +417,8 @@ pub unsafe extern "C" fn mls_member_propose_remove(
 ) -> u32
     ghost asked: { Asked }
     requires* memory { sem 𝓛 (asked_at (makes_at member message) asked) }
-    ensures* memory { sem 𝓛 (answered_at MemberProposeRemove leaf (makes_at member message) asked result) }
+    ensures* memory { sem 𝓛 (answered_at MemberProposeRemove leaf
+        (makes_at member message) asked result) }
 {
     run(
         alloc,
@@ -435,8 +447,10 @@ pub unsafe extern "C" fn mls_member_propose_extensions(
     message: *mut *mut Handle,
 ) -> u32
     ghost asked: { Asked }
-    requires* memory { sem 𝓛 (asked_at (takes_at member extensions extensions_length message) asked) }
-    ensures* memory { sem 𝓛 (answered_at MemberProposeExtensions 0 (takes_at member extensions extensions_length message) asked result) }
+    requires* memory { sem 𝓛 (asked_at
+        (takes_at member extensions extensions_length message) asked) }
+    ensures* memory { sem 𝓛 (answered_at MemberProposeExtensions 0
+        (takes_at member extensions extensions_length message) asked result) }
 {
     run(
         alloc,
@@ -469,7 +483,8 @@ pub unsafe extern "C" fn mls_member_commit_kept(
 ) -> u32
     ghost asked: { Asked }
     requires* memory { sem 𝓛 (asked_at (commits_at member seed seed_length commit welcome) asked) }
-    ensures* memory { sem 𝓛 (answered_at MemberCommitKept path (commits_at member seed seed_length commit welcome) asked result) }
+    ensures* memory { sem 𝓛 (answered_at MemberCommitKept path
+        (commits_at member seed seed_length commit welcome) asked result) }
 {
     run(
         alloc,
@@ -503,8 +518,10 @@ pub unsafe extern "C" fn mls_member_commit(
     welcome: *mut *mut Handle,
 ) -> u32
     ghost asked: { Asked }
-    requires* memory { sem 𝓛 (asked_at (lists_at member proposals proposals_length seed seed_length commit welcome) asked) }
-    ensures* memory { sem 𝓛 (answered_at MemberCommit path (lists_at member proposals proposals_length seed seed_length commit welcome) asked result) }
+    requires* memory { sem 𝓛 (asked_at
+        (lists_at member proposals proposals_length seed seed_length commit welcome) asked) }
+    ensures* memory { sem 𝓛 (answered_at MemberCommit path
+        (lists_at member proposals proposals_length seed seed_length commit welcome) asked result) }
 {
     run(
         alloc,
