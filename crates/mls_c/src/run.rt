@@ -61,3 +61,38 @@ pub(crate) unsafe fn run(
     put_number(value_out, value);
     answer
 }
+
+/// A call with what C passed. A pointer that isn't named is null, and a number 0.
+macro_rules! run_call {
+    (@or $default:expr;) => { $default };
+    (@or $default:expr; $named:expr) => { $named };
+    (
+        $alloc:ident, $call:ident
+        $(, number = $number:ident)?
+        $(, handle = $handle:ident)?
+        $(, first = ($first:ident, $first_length:ident))?
+        $(, second = ($second:ident, $second_length:ident))?
+        $(, third = ($third:ident, $third_length:ident))?
+        $(, made = $made:ident)?
+        $(, other = $other:ident)?
+        $(, value = $value:ident)?
+    ) => {
+        $crate::run::run(
+            $alloc,
+            $crate::call::Call::$call,
+            run_call!(@or 0; $($number)?),
+            run_call!(@or std::ptr::null_mut(); $($handle)?),
+            run_call!(@or std::ptr::null(); $($first)?),
+            run_call!(@or 0; $($first_length)?),
+            run_call!(@or std::ptr::null(); $($second)?),
+            run_call!(@or 0; $($second_length)?),
+            run_call!(@or std::ptr::null(); $($third)?),
+            run_call!(@or 0; $($third_length)?),
+            run_call!(@or std::ptr::null_mut(); $($made)?),
+            run_call!(@or std::ptr::null_mut(); $($other)?),
+            run_call!(@or std::ptr::null_mut(); $($value)?),
+        )
+    };
+}
+
+pub(crate) use run_call;
