@@ -63,15 +63,9 @@ pub(crate) fn member_commit_kept(alloc: Global, held: Held, path: u64, seed: &Gi
     match take_member(held) {
         Ok(mut member) => {
             let outcome = commit_kept_list(alloc, &mut member, path, seed);
-            Done {
-                held: Held::Member(member),
-                outcome,
-            }
+            Done::of_member(member, outcome)
         }
-        Err((held, number)) => Done {
-            held,
-            outcome: Err(number),
-        },
+        Err((held, number)) => Done::of_refusal(held, number),
     }
 }
 
@@ -172,14 +166,8 @@ pub(crate) fn member_commit(
     match take_member(held) {
         Ok(mut member) => {
             let outcome = commit_given_list(alloc, &mut member, proposals, path, seed);
-            Done {
-                held: Held::Member(member),
-                outcome,
-            }
+            Done::of_member(member, outcome)
         }
-        Err((held, number)) => Done {
-            held,
-            outcome: Err(number),
-        },
+        Err((held, number)) => Done::of_refusal(held, number),
     }
 }

@@ -89,15 +89,9 @@ pub(crate) fn conversation_seal(
                 authenticated_data,
                 seed,
             );
-            Done {
-                held: Held::Conversation(conversation),
-                outcome,
-            }
+            Done::of_conversation(conversation, outcome)
         }
-        Err((held, number)) => Done {
-            held,
-            outcome: Err(number),
-        },
+        Err((held, number)) => Done::of_refusal(held, number),
     }
 }
 
@@ -135,14 +129,8 @@ pub(crate) fn conversation_open(alloc: Global, held: Held, message: &Given) -> D
     match take_conversation(held) {
         Ok(mut conversation) => {
             let outcome = open_data(alloc, &mut conversation, message);
-            Done {
-                held: Held::Conversation(conversation),
-                outcome,
-            }
+            Done::of_conversation(conversation, outcome)
         }
-        Err((held, number)) => Done {
-            held,
-            outcome: Err(number),
-        },
+        Err((held, number)) => Done::of_refusal(held, number),
     }
 }

@@ -1,9 +1,11 @@
 //! What a call leaves.
 
-ghost use Rattle.std.specs.Prelude.{◌≡◌};
+ghost use Rattle.std.specs.Prelude.{◌≡◌, Err};
 ghost use Rattle.mls_c.specs.Memory.{ArePartsOf};
+ghost use Rattle.mls_c.specs.declared.held.Held.TheVariants as variants;
 
 use crate::held::Held;
+use mls::{Conversation, Member, Suite0001};
 
 /// What a call makes: what two handles hold, and a number.
 #[derive(Drop)]
@@ -23,6 +25,44 @@ pub struct Done {
     pub held: Held,
     /// What the call makes.
     pub outcome: Result<Fruit, u32>,
+}
+
+impl Done {
+    /// What is left of a call on a member.
+    pub(crate) fn of_member(member: Member<Suite0001>, outcome: Result<Fruit, u32>) -> Done
+        ensures held { result.held ≡ variants.Member member }
+        ensures outcome { result.outcome ≡ outcome }
+    {
+        Done {
+            held: Held::Member(member),
+            outcome,
+        }
+    }
+
+    /// What is left of a call on a conversation.
+    pub(crate) fn of_conversation(
+        conversation: Conversation<Suite0001>,
+        outcome: Result<Fruit, u32>,
+    ) -> Done
+        ensures held { result.held ≡ variants.Conversation conversation }
+        ensures outcome { result.outcome ≡ outcome }
+    {
+        Done {
+            held: Held::Conversation(conversation),
+            outcome,
+        }
+    }
+
+    /// What is left of a call that was refused.
+    pub(crate) fn of_refusal(held: Held, number: u32) -> Done
+        ensures held { result.held ≡ held }
+        ensures outcome { result.outcome ≡ Err number }
+    {
+        Done {
+            held,
+            outcome: Err(number),
+        }
+    }
 }
 
 /// What a call writes, and what it answers.

@@ -51,15 +51,9 @@ pub(crate) fn member_process(held: Held, message: &Given) -> Done
     match take_member(held) {
         Ok(mut member) => {
             let outcome = follow_message(&mut member, message);
-            Done {
-                held: Held::Member(member),
-                outcome,
-            }
+            Done::of_member(member, outcome)
         }
-        Err((held, number)) => Done {
-            held,
-            outcome: Err(number),
-        },
+        Err((held, number)) => Done::of_refusal(held, number),
     }
 }
 
@@ -98,15 +92,9 @@ pub(crate) fn member_propose_update(alloc: Global, held: Held, seed: &Given) -> 
     match take_member(held) {
         Ok(mut member) => {
             let outcome = propose_key(alloc, &mut member, seed);
-            Done {
-                held: Held::Member(member),
-                outcome,
-            }
+            Done::of_member(member, outcome)
         }
-        Err((held, number)) => Done {
-            held,
-            outcome: Err(number),
-        },
+        Err((held, number)) => Done::of_refusal(held, number),
     }
 }
 
@@ -163,15 +151,9 @@ pub(crate) fn member_propose_add(alloc: Global, held: Held, key_package: &Given)
     match take_member(held) {
         Ok(mut member) => {
             let outcome = propose_package(alloc, &mut member, key_package);
-            Done {
-                held: Held::Member(member),
-                outcome,
-            }
+            Done::of_member(member, outcome)
         }
-        Err((held, number)) => Done {
-            held,
-            outcome: Err(number),
-        },
+        Err((held, number)) => Done::of_refusal(held, number),
     }
 }
 
@@ -197,15 +179,9 @@ pub(crate) fn member_propose_remove(alloc: Global, held: Held, leaf: u64) -> Don
     match take_member(held) {
         Ok(mut member) => {
             let outcome = propose_removal(alloc, &mut member, leaf);
-            Done {
-                held: Held::Member(member),
-                outcome,
-            }
+            Done::of_member(member, outcome)
         }
-        Err((held, number)) => Done {
-            held,
-            outcome: Err(number),
-        },
+        Err((held, number)) => Done::of_refusal(held, number),
     }
 }
 
@@ -218,15 +194,9 @@ pub(crate) fn member_drop_pending(held: Held) -> Done
     match take_member(held) {
         Ok(mut member) => {
             let had = if member.drop_pending() { 1 } else { 0 };
-            Done {
-                held: Held::Member(member),
-                outcome: Ok(number(had)),
-            }
+            Done::of_member(member, Ok(number(had)))
         }
-        Err((held, number)) => Done {
-            held,
-            outcome: Err(number),
-        },
+        Err((held, number)) => Done::of_refusal(held, number),
     }
 }
 
@@ -270,14 +240,8 @@ pub(crate) fn member_propose_extensions(alloc: Global, held: Held, extensions: &
     match take_member(held) {
         Ok(mut member) => {
             let outcome = propose_extension_list(alloc, &mut member, extensions);
-            Done {
-                held: Held::Member(member),
-                outcome,
-            }
+            Done::of_member(member, outcome)
         }
-        Err((held, number)) => Done {
-            held,
-            outcome: Err(number),
-        },
+        Err((held, number)) => Done::of_refusal(held, number),
     }
 }
