@@ -37,10 +37,10 @@ static void check(const char *call, uint32_t number) {
 }
 
 /* Holds what a call made. */
-static void *held(void *handle) { return handles[handle_count++] = handle; }
+static void *hold(void *handle) { return handles[handle_count++] = handle; }
 
 /* Copies the bytes of a handle. */
-static struct message copied(mls_bytes *handle) {
+static struct message copy_of(mls_bytes *handle) {
     struct message message = {NULL, 0};
     uint64_t length = 0;
     check("length", mls_bytes_length(handle, &length));
@@ -53,7 +53,7 @@ static struct message copied(mls_bytes *handle) {
 }
 
 /* Holds bytes that a call made, and copies them. */
-static struct message taken(mls_bytes *handle) { return copied(held(handle)); }
+static struct message take(mls_bytes *handle) { return copy_of(hold(handle)); }
 
 /* A seed of 32 like bytes. */
 static const uint8_t *seed(uint8_t byte) {
@@ -65,7 +65,7 @@ static const uint8_t *seed(uint8_t byte) {
 static mls_candidate *candidate(const char *name, uint8_t byte) {
     mls_candidate *made = NULL;
     check("candidate", mls_candidate_new((const uint8_t *)name, strlen(name), seed(byte), 32, &made));
-    return held(made);
+    return hold(made);
 }
 
 static uint64_t process(mls_member *member, struct message message) {
@@ -78,11 +78,11 @@ static uint64_t process(mls_member *member, struct message message) {
 static struct message commit_kept(mls_member *member, uint8_t byte, struct message *welcome) {
     mls_bytes *made = NULL, *welcomed = NULL;
     check("commit", mls_member_commit_kept(member, 1, seed(byte), 32, &made, &welcomed));
-    held(made);
-    held(welcomed);
-    struct message message = copied(made);
+    hold(made);
+    hold(welcomed);
+    struct message message = copy_of(made);
     if (welcome != NULL) {
-        *welcome = copied(welcomed);
+        *welcome = copy_of(welcomed);
     }
     process(member, message);
     return message;
@@ -93,27 +93,27 @@ static struct message commit_removal(mls_member *member, uint8_t leaf, uint8_t b
     const uint8_t list[] = {7, 1, 0, 3, 0, 0, 0, leaf};
     mls_bytes *made = NULL;
     check("commit", mls_member_commit(member, list, sizeof list, 1, seed(byte), 32, &made, NULL));
-    struct message message = taken(made);
+    struct message message = take(made);
     process(member, message);
     return message;
 }
 
 /* A member that is saved, and loaded again. */
-static mls_member *reloaded(mls_member *member) {
+static mls_member *reload(mls_member *member) {
     mls_bytes *made = NULL;
     mls_member *loaded = NULL;
     check("save", mls_member_save(member, &made));
-    struct message saved = taken(made);
+    struct message saved = take(made);
     check("load", mls_member_load(saved.bytes, saved.length, &loaded));
     memset(saved.bytes, 0, saved.length); /* They hold the member's secrets. */
-    return held(loaded);
+    return hold(loaded);
 }
 
 /* A secret of 16 bytes that a member exports. */
-static struct message exported(mls_member *member) {
+static struct message export_secret(mls_member *member) {
     mls_bytes *made = NULL;
     check("export", mls_member_export(member, (const uint8_t *)"pair", 4, NULL, 0, 16, &made));
-    return taken(made);
+    return take(made);
 }
 
 /* One member says something to the other. */
@@ -122,13 +122,13 @@ static void say(mls_member *from, mls_member *to, const char *words) {
     mls_bytes *made = NULL;
     uint64_t sender = 0;
     check("conversation", mls_conversation_new(from, &speaker));
-    held(speaker);
+    hold(speaker);
     check("conversation", mls_conversation_new(to, &hearer));
-    held(hearer);
+    hold(hearer);
     check("seal", mls_conversation_seal(speaker, (const uint8_t *)words, strlen(words), NULL, 0, 8, seed(9), 32, &made));
-    struct message message = taken(made);
+    struct message message = take(made);
     check("open", mls_conversation_open(hearer, message.bytes, message.length, &made, NULL, &sender));
-    struct message heard = taken(made);
+    struct message heard = take(made);
     printf("leaf %" PRIu64 " says %.*s\n", sender, (int)heard.length, (const char *)heard.bytes);
 }
 
@@ -146,28 +146,28 @@ int main(void) {
     mls_member *alice = NULL, *bob = NULL;
     mls_bytes *made = NULL;
     check("create", mls_member_create(hers, (const uint8_t *)"group", 5, seed(3), 32, &alice));
-    held(alice);
+    hold(alice);
     check("key package", mls_candidate_key_package(his, &made));
-    struct message package = taken(made), welcome = {NULL, 0};
+    struct message package = take(made), welcome = {NULL, 0};
     check("add", mls_member_propose_add(alice, package.bytes, package.length, NULL));
     commit_kept(alice, 4, &welcome);
     check("join", mls_member_join(his, welcome.bytes, welcome.length, &bob));
-    held(bob);
+    hold(bob);
     printf("bob joins in epoch %" PRIu64 "\n", epoch(bob));
     say(alice, bob, "hello");
 
     /* Bob proposes a new key for his leaf, and Alice commits it. */
     check("update", mls_member_propose_update(bob, seed(5), 32, &made));
-    process(alice, taken(made));
+    process(alice, take(made));
     process(bob, commit_kept(alice, 6, NULL));
     printf("both are in epoch %" PRIu64 "\n", epoch(alice));
 
     /* Bob is saved and loaded, and both export the same secret. */
-    bob = reloaded(bob);
-    struct message hers_secret = exported(alice), his_secret = exported(bob);
+    bob = reload(bob);
+    struct message hers_secret = export_secret(alice), his_secret = export_secret(bob);
     printf("both export %s\n", memcmp(hers_secret.bytes, his_secret.bytes, 16) == 0 ? "one secret" : "two secrets");
     check("group", mls_member_group_id(bob, &made));
-    struct message group = taken(made);
+    struct message group = take(made);
     printf("bob is in %.*s, epoch %" PRIu64 "\n", (int)group.length, (const char *)group.bytes, epoch(bob));
 
     /* Alice removes Bob. */

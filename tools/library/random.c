@@ -85,7 +85,7 @@ static struct slot one(enum kind kind) {
 }
 
 /* Bytes: random ones, or those of a message, at times with a bit turned. */
-static struct text given(void) {
+static struct text any_text(void) {
     static uint8_t rooms[3][ROOM];
     static size_t turn;
     uint8_t *room = rooms[turn++ % 3];
@@ -120,7 +120,7 @@ static struct text seed(void) {
 static struct text list(void) {
     static uint8_t removal[] = {7, 1, 0, 3, 0, 0, 0, 0};
     removal[7] = (uint8_t)next(4);
-    return next(2) == 0 ? (struct text){removal, sizeof removal} : given();
+    return next(2) == 0 ? (struct text){removal, sizeof removal} : any_text();
 }
 
 /* The list of a commit that adds the client of a KeyPackage's message in full. */
@@ -140,7 +140,7 @@ static struct text addition(struct text message) {
 static struct text extensions(void) {
     static uint8_t one[] = {4, 0xf0, 1, 1, 0};
     one[4] = (uint8_t)next(256);
-    return next(2) == 0 ? (struct text){one, sizeof one} : given();
+    return next(2) == 0 ? (struct text){one, sizeof one} : any_text();
 }
 
 /* A number: mostly a small one. */
@@ -157,7 +157,7 @@ static void keep(struct slot made) {
 }
 
 /* Copies the bytes of a handle, and frees it. */
-static struct text taken(mls_bytes *made) {
+static struct text take(mls_bytes *made) {
     uint64_t length = 0, byte = 0;
     if (mls_bytes_length(made, &length) != 0) {
         fail("length", 1);
@@ -185,13 +185,13 @@ static void keep_bytes(mls_bytes *made) {
     }
     struct text *text = &texts[next(TEXTS)];
     free(text->bytes);
-    *text = taken(made);
+    *text = take(made);
 }
 
 /* ---- calls */
 
 static uint32_t call_candidate(struct slot on, struct made *made) {
-    struct text a = given(), s = seed();
+    struct text a = any_text(), s = seed();
     void **out = &made->slot.handle;
     switch (next(6)) {
     case 0:
@@ -214,7 +214,7 @@ static uint32_t call_candidate(struct slot on, struct made *made) {
 }
 
 static uint32_t ask_member(struct slot on, struct made *made) {
-    struct text a = given(), b = given();
+    struct text a = any_text(), b = any_text();
     uint64_t told = 0;
     switch (next(8)) {
     case 0:
@@ -238,7 +238,7 @@ static uint32_t ask_member(struct slot on, struct made *made) {
 }
 
 static uint32_t change_member(struct slot on, struct made *made) {
-    struct text a = given(), l = list(), e = extensions(), s = seed();
+    struct text a = any_text(), l = list(), e = extensions(), s = seed();
     uint64_t told = 0;
     switch (next(10)) {
     case 0:
@@ -262,7 +262,7 @@ static uint32_t change_member(struct slot on, struct made *made) {
 }
 
 static uint32_t call_conversation(struct slot on, struct made *made) {
-    struct text a = given(), b = given(), s = seed();
+    struct text a = any_text(), b = any_text(), s = seed();
     uint64_t sender = 0;
     if (next(2) == 0) {
         uint64_t padding = number(100);
@@ -273,7 +273,7 @@ static uint32_t call_conversation(struct slot on, struct made *made) {
 }
 
 static uint32_t call_other(struct slot on, struct made *made) {
-    struct text a = given();
+    struct text a = any_text();
     if (next(2) == 0) {
         return mls_refusal_name(number(200), &made->bytes);
     }
@@ -287,12 +287,12 @@ static uint32_t call_other(struct slot on, struct made *made) {
 /* ---- what must hold */
 
 /* What a member is saved as, or nothing of another handle. */
-static struct text saved(struct slot slot) {
+static struct text save(struct slot slot) {
     mls_bytes *made = NULL;
     bool was_refusing = is_refusing;
     is_refusing = false;
     uint32_t answer = slot.kind == MEMBER ? mls_member_save(slot.handle, &made) : 0;
-    struct text text = made == NULL ? (struct text){NULL, 0} : taken(made);
+    struct text text = made == NULL ? (struct text){NULL, 0} : take(made);
     is_refusing = was_refusing;
     if (answer != 0) {
         fail("save", answer);
@@ -316,7 +316,7 @@ static bool is_good(uint32_t answer) {
 static void call_on(struct slot on, enum kind wanted, uint32_t (*call)(struct slot, struct made *)) {
     struct made made = {{NULL, NOTHING}, NULL, NULL};
     bool compares = next(8) == 0;
-    struct text before = compares ? saved(on) : (struct text){NULL, 0};
+    struct text before = compares ? save(on) : (struct text){NULL, 0};
     is_refusing = true;
     uint32_t answer = call(on, &made);
     is_good(answer);
@@ -330,7 +330,7 @@ static void call_on(struct slot on, enum kind wanted, uint32_t (*call)(struct sl
         fail("another handle", answer);
     }
     if (compares) {
-        struct text after = saved(on);
+        struct text after = save(on);
         if (answer != 0 && !is_same(before, after)) {
             fail("a member was changed", answer);
         }
@@ -350,7 +350,7 @@ static void call_on(struct slot on, enum kind wanted, uint32_t (*call)(struct sl
 static struct text put(mls_bytes *made) {
     struct text *text = &texts[next(TEXTS)];
     free(text->bytes);
-    return *text = taken(made);
+    return *text = take(made);
 }
 
 /* A member adds a candidate, which joins. */
@@ -369,7 +369,7 @@ static void grow(void) {
     if (!is_good(mls_member_commit(maker.handle, list.bytes, list.length, next(2), s.bytes, s.length, &commit, &welcome))) {
         return;
     }
-    struct text message = taken(commit), invitation = taken(welcome);
+    struct text message = take(commit), invitation = take(welcome);
     is_refusing = true;
     is_good(mls_member_process(maker.handle, message.bytes, message.length, &told));
     is_refusing = true;
@@ -383,7 +383,7 @@ static void grow(void) {
 
 /* A message goes to all members. */
 static void spread(void) {
-    struct text message = given();
+    struct text message = any_text();
     uint64_t told = 0;
     for (size_t i = 0; i < SLOTS; i++) {
         if (slots[i].kind == MEMBER) {
@@ -395,7 +395,7 @@ static void spread(void) {
 
 /* A conversation for each member, then what one seals goes to all. */
 static void talk(void) {
-    struct text data = given(), s = seed();
+    struct text data = any_text(), s = seed();
     mls_bytes *made = NULL;
     mls_conversation *all[SLOTS] = {NULL};
     size_t speaker = next(SLOTS);
@@ -420,7 +420,7 @@ static void talk(void) {
             is_refusing = true;
             is_good(mls_conversation_open(all[i], message.bytes, message.length, &made, NULL, &sender));
             if (made != NULL) {
-                struct text heard = taken(made);
+                struct text heard = take(made);
                 if (!is_same(heard, data)) {
                     fail("something else was heard", 0);
                 }

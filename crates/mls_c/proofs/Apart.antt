@@ -17,8 +17,8 @@ use Rattle.std.proofs.Common.{w32, w64, ◌<◌, ◌^◌}
 use Rattle.mls_c.specs.Memory.{IfNull}
 use Rattle.mls_c.specs.declared.done.Done.{Done}
 use Rattle.mls_c.specs.declared.done.Parts.{Parts}
-use Rattle.mls_c.specs.declared.copying.Copied.{Copied as CopiedValue}
-use Rattle.mls_c.specs.contracts.copying.Copied as copied
+use Rattle.mls_c.specs.declared.copying.CopyOutcome.{CopyOutcome as CopyValue}
+use Rattle.mls_c.specs.contracts.copying.CopyOutcome as copy_outcome
 use Rattle.mls_c.specs.contracts.held.Held as held
 use Rattle.mls_c.proofs.held.Held.TheLaws as held_laws
 use Rattle.mls_c.specs.contracts.done.Done as done
@@ -55,10 +55,10 @@ module _ {M : Type 1} {𝓤 : Ura M} {𝓛 : Logic 𝓤} {K : Type 0} {Γ : List
       k u v (e ∙ (λ i. vstruct (of_list (eu i ++ (ev i ++ (iv.0 i ++ (ia.0 i ++ []))))) ∷ [])) gu gv iv.1 ia.1))))))
 
   -- into what is held and the answer
-  pub copied_apart : K → (d : CopiedValue) (vs : List Val)
+  pub copy_apart : K → (d : CopyValue) (vs : List Val)
       → ((u : Val) → vs ≡ vstruct (of_list (u ∷ vint w32 d.answer ∷ [])) ∷ [] → Good (layout held.the_row) u → d.answer < 2 ^ 32
-      → Seq K 𝓛 (‵ (held.the_row.own_val d.held (u ∷ [])) ∷ Γ) G) → Seq K 𝓛 (‵ (copied.the_row.own_val d vs) ∷ Γ) G
-  copied_apart t d vs k = fpick t (λ vss. fsplit t $ feq_l t (λ e. fsplit t $
+      → Seq K 𝓛 (‵ (held.the_row.own_val d.held (u ∷ [])) ∷ Γ) G) → Seq K 𝓛 (‵ (copy_outcome.the_row.own_val d vs) ∷ Γ) G
+  copy_apart t d vs k = fpick t (λ vss. fsplit t $ feq_l t (λ e. fsplit t $
       use1 𝓛 (‵ (held.the_row.own_val d.held vss.0)) (id⊢ 𝓤 _) $ apart held.the_row (held_laws.the_row_laws.lawful 𝓛) t refl d.held vss.0 (λ u eu gu. move t (1 ∷ []) $ fsplit t $
       peeks t u32 (Is u32) (shows 𝓛 u32) d.answer vss.1.0 (λ ia. drop t $ drop t $
       k u (e ∙ (λ i. vstruct (of_list (eu i ++ (ia.0 i ++ []))) ∷ [])) gu ia.1))))

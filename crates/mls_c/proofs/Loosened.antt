@@ -63,18 +63,18 @@ module _ (R Z : RattleType) (L : Laws Z) (g : Ghosts Z.Denot) where
 
     -- of a pointer that isn't null
     some_case : (holds : Ty → Ptr → Fml) → K → (p : Ptr) (y : Option R.Denot) → InBlock p
-        → ((b o : ℕ) (x : R.Denot) → p ≡ block_ptr b o → Seq K 𝓛 (‵ (box_owns holds R (block_ptr b o) x) ∷ Γ) G) → Seq K 𝓛 (‵ (loose_owns holds R p y) ∷ Γ) G
-    some_case holds t (block_ptr b o) (Some x) within k = k b o x refl
+        → ((b o : ℕ) (x : R.Denot) → p ≡ block_ptr b o → y ≡ Some x → Seq K 𝓛 (‵ (box_owns holds R (block_ptr b o) x) ∷ Γ) G) → Seq K 𝓛 (‵ (loose_owns holds R p y) ∷ Γ) G
+    some_case holds t (block_ptr b o) (Some x) within k = k b o x refl refl
     some_case holds t (block_ptr b o) None within k = use1 𝓛 (given ⊥ (‵ ftrue)) (never_e 𝓤 _) $ learn t (λ z. absurd z)
     some_case holds t null_ptr y within k = absurd within
 
   module _ {M : Type 1} {𝓤 : Ura M} {𝓛 : Logic 𝓤} {K : Type 0} {Γ : List (Item 𝓤)} {G : Goal 𝓤 𝓛.H} where
     pub loose_some : K → (d : Loose.Denot) → InBlock d.at → (vs : List Val)
-        → ((b o : ℕ) (h : Val) (x : R.Denot) → d.at ≡ block_ptr b o → vs ≡ both (vptr b o) h ∷ [] → Good (layout Z) h
+        → ((b o : ℕ) (h : Val) (x : R.Denot) → d.at ≡ block_ptr b o → d.value ≡ Some x → vs ≡ both (vptr b o) h ∷ [] → Good (layout Z) h
         → Seq K 𝓛 (‵ (box_owns (g.dealloc_token d.alloc) R (block_ptr b o) x) ∷ ‵ (Z.own_val d.alloc (h ∷ [])) ∷ Γ) G)
         → Seq K 𝓛 (‵ (Loose.own_val d vs) ∷ Γ) G
     loose_some t d within vs k =
         fsplit t $ fpick t (λ vss. fsplit t $ feq_l t (λ ev. fsplit t $ feq_l t (λ ep. fsplit t $ handle_tells al t d.alloc vss.1.0 (λ h ea fits. move t (1 ∷ []) $ drop t $ move t (1 ∷ []) $
-        some_case (g.dealloc_token d.alloc) t d.at d.value within (λ b o x e. k b o h x e
+        some_case (g.dealloc_token d.alloc) t d.at d.value within (λ b o x e ex. k b o h x e ex
         (subst (λ (p : Ptr). vs ≡ vstruct (of_list (ptr_val p ∷ h ∷ [])) ∷ []) e
         (subst (λ (ws : List Val). vs ≡ vstruct (of_list (ptr_val d.at ∷ (ws ++ []))) ∷ []) ea (subst (λ (ps : List Val). vs ≡ vstruct (of_list (ps ++ (vss.1.0 ++ []))) ∷ []) ep ev))) fits)))))

@@ -184,80 +184,80 @@ bytes_at held index =
     then Ok (tells (get_or xs index 0), held) else Err (number_of BufferLength)
 
 -- bytes that are copied into a buffer of just their length
-unfoldable pub copied_bytes : Shown → List ℕ → Result (List ℕ) ℕ
-copied_bytes held old =
+unfoldable pub bytes_for : Shown → List ℕ → Result (List ℕ) ℕ
+bytes_for held old =
     some_bytes held >>= λ xs.
     if nat_eq (length xs) (length old) then Ok xs else Err (number_of BufferLength)
 
 -- the call answers 0 and copies, or answers the number of a refusal, and the buffer is as it was
 abbrev pub Copies : Shown → List ℕ → List ℕ → ℕ → Type 0
 Copies held old new answer =
-    MatchResult (copied_bytes held old) (λ xs. (answer ≡ 0) × (new ≡ xs))
+    MatchResult (bytes_for held old) (λ xs. (answer ≡ 0) × (new ≡ xs))
     (λ n. (answer ≡ n) × (new ≡ old))
 
 -- ---- calls on candidates
 
 -- a candidate of an identity and a seed
-unfoldable pub made_candidate : Text → Text → Result Fruits ℕ
-made_candidate identity seed =
+unfoldable pub make_candidate : Text → Text → Result Fruits ℕ
+make_candidate identity seed =
     identity >>= λ name. a_seed seed
     >>= λ s. new_candidate suite_0001 name s
     >>= λ k. Ok (makes (candidate k))
 
 unfoldable pub candidate_new : Shown → Text → Text → Answer
-candidate_new held identity seed = made_candidate identity seed >>= λ x. Ok (x, held)
+candidate_new held identity seed = make_candidate identity seed >>= λ x. Ok (x, held)
 
 -- the message of a candidate's KeyPackage
-unfoldable pub made_package : Shown → Result Fruits ℕ
-made_package held = a_candidate held >>= λ k. Ok (makes (bytes (package_message k.offered)))
+unfoldable pub make_package : Shown → Result Fruits ℕ
+make_package held = a_candidate held >>= λ k. Ok (makes (bytes (package_message k.offered)))
 
 unfoldable pub candidate_key_package : Shown → Answer
-candidate_key_package held = made_package held >>= λ x. Ok (x, held)
+candidate_key_package held = make_package held >>= λ x. Ok (x, held)
 
 -- the bytes that a candidate is saved as
-unfoldable pub made_saved_candidate : Shown → Result Fruits ℕ
-made_saved_candidate held =
+unfoldable pub make_saved_candidate : Shown → Result Fruits ℕ
+make_saved_candidate held =
     a_candidate held >>= λ k. save_candidate k >>= λ xs. Ok (makes (bytes xs))
 
 unfoldable pub candidate_save : Shown → Answer
-candidate_save held = made_saved_candidate held >>= λ x. Ok (x, held)
+candidate_save held = make_saved_candidate held >>= λ x. Ok (x, held)
 
 -- the candidate that was saved so
-unfoldable pub made_loaded_candidate : Text → Result Fruits ℕ
-made_loaded_candidate given =
+unfoldable pub make_loaded_candidate : Text → Result Fruits ℕ
+make_loaded_candidate given =
     given >>= λ xs. load_candidate suite_0001 xs >>= λ k. Ok (makes (candidate k))
 
 unfoldable pub candidate_load : Shown → Text → Answer
-candidate_load held given = made_loaded_candidate given >>= λ x. Ok (x, held)
+candidate_load held given = make_loaded_candidate given >>= λ x. Ok (x, held)
 
 -- ---- calls that make members
 
 -- the group of a candidate alone
-unfoldable pub made_group : Shown → Text → Text → Result Fruits ℕ
-made_group held group seed =
+unfoldable pub make_group : Shown → Text → Text → Result Fruits ℕ
+make_group held group seed =
     a_candidate held >>= λ k. group >>= λ name. a_seed seed
     >>= λ s. create_group suite_0001 k name s
     >>= λ m. Ok (makes (member m))
 
 unfoldable pub member_create : Shown → Text → Text → Answer
-member_create held group seed = made_group held group seed >>= λ x. Ok (x, held)
+member_create held group seed = make_group held group seed >>= λ x. Ok (x, held)
 
 -- the member that a Welcome makes of a candidate
-unfoldable pub made_joined : Shown → Text → Result Fruits ℕ
-made_joined held welcome =
+unfoldable pub make_joiner : Shown → Text → Result Fruits ℕ
+make_joiner held welcome =
     a_candidate held >>= λ k. welcome
     >>= λ xs. join_verdict suite_0001 k xs
     >>= λ j. Ok (makes (member j.member))
 
 unfoldable pub member_join : Shown → Text → Answer
-member_join held welcome = made_joined held welcome >>= λ x. Ok (x, held)
+member_join held welcome = make_joiner held welcome >>= λ x. Ok (x, held)
 
 -- the member that was saved so
-unfoldable pub made_loaded_member : Text → Result Fruits ℕ
-made_loaded_member given = given >>= λ xs. load suite_0001 xs >>= λ m. Ok (makes (member m))
+unfoldable pub make_loaded_member : Text → Result Fruits ℕ
+make_loaded_member given = given >>= λ xs. load suite_0001 xs >>= λ m. Ok (makes (member m))
 
 unfoldable pub member_load : Shown → Text → Answer
-member_load held given = made_loaded_member given >>= λ x. Ok (x, held)
+member_load held given = make_loaded_member given >>= λ x. Ok (x, held)
 
 -- ---- calls on members
 
@@ -266,35 +266,35 @@ unfoldable pub member_epoch : Shown → Answer
 member_epoch held = a_member held >>= λ m. Ok (tells m.public.context.epoch, held)
 
 -- the group's identifier
-unfoldable pub made_group_id : Shown → Result Fruits ℕ
-made_group_id held = a_member held >>= λ m. Ok (makes (bytes m.public.context.group_id))
+unfoldable pub make_group_id : Shown → Result Fruits ℕ
+make_group_id held = a_member held >>= λ m. Ok (makes (bytes m.public.context.group_id))
 
 unfoldable pub member_group_id : Shown → Answer
-member_group_id held = made_group_id held >>= λ x. Ok (x, held)
+member_group_id held = make_group_id held >>= λ x. Ok (x, held)
 
 -- what a message does to it
-unfoldable pub processed : Text → Member → Result (Fruits × Member) ℕ
-processed given m =
+unfoldable pub follow_message : Text → Member → Result (Fruits × Member) ℕ
+follow_message given m =
     given >>= λ xs. verdict suite_0001 m xs >>= λ r. Ok (tells (effect_number r.0), r.1)
 
 unfoldable pub member_process : Shown → Text → Answer
-member_process held given = on_member held (processed given)
+member_process held given = on_member held (follow_message given)
 
 -- it proposes to add a KeyPackage
-unfoldable pub added : Text → Member → Result (Fruits × Member) ℕ
-added given m =
+unfoldable pub propose_package : Text → Member → Result (Fruits × Member) ℕ
+propose_package given m =
     a_package given >>= λ k. propose_add suite_0001 m k >>= λ r. Ok (makes (bytes r.0), r.1)
 
 unfoldable pub member_propose_add : Shown → Text → Answer
-member_propose_add held given = on_member held (added given)
+member_propose_add held given = on_member held (propose_package given)
 
 -- it proposes a new key for its leaf
-unfoldable pub updated : Text → Member → Result (Fruits × Member) ℕ
-updated seed m =
+unfoldable pub propose_key : Text → Member → Result (Fruits × Member) ℕ
+propose_key seed m =
     a_seed seed >>= λ s. propose_update suite_0001 m s >>= λ r. Ok (makes (bytes r.0), r.1)
 
 unfoldable pub member_propose_update : Shown → Text → Answer
-member_propose_update held seed = on_member held (updated seed)
+member_propose_update held seed = on_member held (propose_key seed)
 
 -- it commits a list, with a path where the number isn't 0: the commit, and the Welcome where
 -- somebody is added
@@ -303,38 +303,38 @@ commits m list path seed = commit_call suite_0001 m list (not (nat_eq path 0)) s
     >>= λ r. Ok ((Some (bytes r.0.0), option_map bytes r.0.1, 0), r.1)
 
 -- what it keeps
-unfoldable pub committed : ℕ → Text → Member → Result (Fruits × Member) ℕ
-committed path seed m = a_seed seed >>= λ s. commits m (kept_list m) path s
+unfoldable pub commit_kept_list : ℕ → Text → Member → Result (Fruits × Member) ℕ
+commit_kept_list path seed m = a_seed seed >>= λ s. commits m (kept_list m) path s
 
 unfoldable pub member_commit_kept : Shown → ℕ → Text → Answer
-member_commit_kept held path seed = on_member held (committed path seed)
+member_commit_kept held path seed = on_member held (commit_kept_list path seed)
 
 -- the list that bytes spell (RFC 9420, 12.4)
-unfoldable pub committed_list : Text → ℕ → Text → Member → Result (Fruits × Member) ℕ
-committed_list list path seed m =
+unfoldable pub commit_given_list : Text → ℕ → Text → Member → Result (Fruits × Member) ℕ
+commit_given_list list path seed m =
     some_proposals list >>= λ xs. a_seed seed >>= λ s. commits m xs path s
 
 unfoldable pub member_commit : Shown → Text → ℕ → Text → Answer
-member_commit held list path seed = on_member held (committed_list list path seed)
+member_commit held list path seed = on_member held (commit_given_list list path seed)
 
 -- a leaf's index is below 2^32: 22 no leaf has a larger one
 unfoldable pub a_leaf : ℕ → Result ℕ ℕ
 a_leaf n = if nat_lt n (2 ^ 32) then Ok n else Err 22
 
 -- it proposes to remove a leaf
-unfoldable pub removed : ℕ → Member → Result (Fruits × Member) ℕ
-removed leaf m =
+unfoldable pub propose_removal : ℕ → Member → Result (Fruits × Member) ℕ
+propose_removal leaf m =
     a_leaf leaf >>= λ n. propose_remove suite_0001 m n >>= λ r. Ok (makes (bytes r.0), r.1)
 
 unfoldable pub member_propose_remove : Shown → ℕ → Answer
-member_propose_remove held leaf = on_member held (removed leaf)
+member_propose_remove held leaf = on_member held (propose_removal leaf)
 
 -- it forgets its pending commit, and answers whether there was one
-unfoldable pub dropped : Member → Result (Fruits × Member) ℕ
-dropped m = Ok (tells (if is_some m.pending then 1 else 0), without_pending m)
+unfoldable pub forget_pending : Member → Result (Fruits × Member) ℕ
+forget_pending m = Ok (tells (if is_some m.pending then 1 else 0), without_pending m)
 
 unfoldable pub member_drop_pending : Shown → Answer
-member_drop_pending held = on_member held dropped
+member_drop_pending held = on_member held forget_pending
 
 -- the index of its leaf
 unfoldable pub member_leaf_index : Shown → Answer
@@ -367,53 +367,53 @@ member_leaf_count held = a_member held >>= λ m. Ok (tells (width m.public.tree)
 abbrev pub identifies : List ℕ → List ℕ → Fruits
 identifies identity key = (Some (bytes identity), Some (bytes key), 0)
 
-abbrev pub IsTold : List ℕ → List ℕ → Result Fruit ℕ → Type 0
-IsTold identity key outcome =
+abbrev pub TellsMember : List ℕ → List ℕ → Result Fruit ℕ → Type 0
+TellsMember identity key outcome =
     MatchResult outcome (λ f. fruits f ≡ identifies identity key) (λ n. n ≡ 1)
 
 -- those of the member at a leaf: 22 there is none
-unfoldable pub made_found : Shown → ℕ → Result Fruits ℕ
-made_found held leaf = a_member held
+unfoldable pub make_identity : Shown → ℕ → Result Fruits ℕ
+make_identity held leaf = a_member held
     >>= λ m. a_leaf leaf
     >>= λ i. require_some 22 (group_member m.public.tree i)
     >>= λ g. Ok (identifies g.identity g.signature_key)
 
 unfoldable pub member_at : Shown → ℕ → Answer
-member_at held leaf = made_found held leaf >>= λ x. Ok (x, held)
+member_at held leaf = make_identity held leaf >>= λ x. Ok (x, held)
 
 -- a secret of n bytes, exported under a label and a context
-unfoldable pub made_export : Shown → Text → Text → ℕ → Result Fruits ℕ
-made_export held label context n = a_member held
+unfoldable pub make_export : Shown → Text → Text → ℕ → Result Fruits ℕ
+make_export held label context n = a_member held
     >>= λ m. a_label label
     >>= λ l. context
     >>= λ c. an_output n
     >>= λ k. Ok (makes (bytes (exported_secret m.epoch l c k)))
 
 unfoldable pub member_export : Shown → Text → Text → ℕ → Answer
-member_export held label context n = made_export held label context n >>= λ x. Ok (x, held)
+member_export held label context n = make_export held label context n >>= λ x. Ok (x, held)
 
 -- it proposes that the group carry these extensions
-unfoldable pub extended : Text → Member → Result (Fruits × Member) ℕ
-extended given m = some_extensions given
+unfoldable pub propose_extension_list : Text → Member → Result (Fruits × Member) ℕ
+propose_extension_list given m = some_extensions given
     >>= λ xs. propose_extensions suite_0001 m xs
     >>= λ r. Ok (makes (bytes r.0), r.1)
 
 unfoldable pub member_propose_extensions : Shown → Text → Answer
-member_propose_extensions held given = on_member held (extended given)
+member_propose_extensions held given = on_member held (propose_extension_list given)
 
 -- ---- calls on conversations
 
 -- the conversation of a member in its epoch
-unfoldable pub made_conversation : Shown → Result Fruits ℕ
-made_conversation held =
+unfoldable pub make_conversation : Shown → Result Fruits ℕ
+make_conversation held =
     a_member held >>= λ m. conversation_of m >>= λ s. Ok (makes (conversation s))
 
 unfoldable pub conversation_new : Shown → Answer
-conversation_new held = made_conversation held >>= λ x. Ok (x, held)
+conversation_new held = make_conversation held >>= λ x. Ok (x, held)
 
 -- it seals data, with authenticated data and so many bytes of padding
-unfoldable pub sealed : Text → Text → ℕ → Text → State → Result (Fruits × State) ℕ
-sealed data_given authenticated padding seed s = data_given
+unfoldable pub seal_data : Text → Text → ℕ → Text → State → Result (Fruits × State) ℕ
+seal_data data_given authenticated padding seed s = data_given
     >>= λ xs. authenticated
     >>= λ ys. a_seed seed
     >>= λ r. seal_message suite_0001 s xs ys padding r
@@ -421,15 +421,15 @@ sealed data_given authenticated padding seed s = data_given
 
 unfoldable pub conversation_seal : Shown → ℕ → Text → Text → Text → Answer
 conversation_seal held padding data_given authenticated seed =
-    on_conversation held (sealed data_given authenticated padding seed)
+    on_conversation held (seal_data data_given authenticated padding seed)
 
 -- what was opened: the data, the authenticated data, and the sender's leaf
-abbrev pub tells_opened : Opened → Fruits
-tells_opened o = (Some (bytes o.application_data), Some (bytes o.authenticated_data), o.leaf_index)
+abbrev pub tells_data : Opened → Fruits
+tells_data o = (Some (bytes o.application_data), Some (bytes o.authenticated_data), o.leaf_index)
 
 -- it opens a message
-unfoldable pub opened : Text → State → Result (Fruits × State) ℕ
-opened given s = given >>= λ xs. open_message suite_0001 s xs >>= λ x. Ok (tells_opened x.0, x.1)
+unfoldable pub open_data : Text → State → Result (Fruits × State) ℕ
+open_data given s = given >>= λ xs. open_message suite_0001 s xs >>= λ x. Ok (tells_data x.0, x.1)
 
 unfoldable pub conversation_open : Shown → Text → Answer
-conversation_open held given = on_conversation held (opened given)
+conversation_open held given = on_conversation held (open_data given)

@@ -39,9 +39,9 @@ held_at (block_ptr b o) x =
     fex Global (λ a. box_owns (ghosts.dealloc_token a) the_row (block_ptr b o) x)
 
 -- what freeing a handle answers
-abbrev pub freed_number : Ptr → ℕ
-freed_number null_ptr = number_of NullHandle
-freed_number (block_ptr b o) = 0
+abbrev pub free_answer : Ptr → ℕ
+free_answer null_ptr = number_of NullHandle
+free_answer (block_ptr b o) = 0
 
 -- a share of the bytes xs lies at p, or p is null
 abbrev pub bytes_at : Share → Ptr → ℕ → List ℕ → Fml
@@ -81,14 +81,14 @@ value_of (Ok f) = f.value
 value_of (Err n) = 0
 
 -- 0 where the call is good
-abbrev pub number_answered : Result Fruit ℕ → ℕ
-number_answered (Ok f) = 0
-number_answered (Err n) = n
+abbrev pub answer_number : Result Fruit ℕ → ℕ
+answer_number (Ok f) = 0
+answer_number (Err n) = n
 
-abbrev pub IsParted : Result Fruit ℕ → Parts → Type 0
-IsParted outcome p =
+abbrev pub ArePartsOf : Result Fruit ℕ → Parts → Type 0
+ArePartsOf outcome p =
     (boxed p.made ≡ made_of outcome) × (boxed p.other ≡ other_of outcome)
-    × (p.value ≡ value_of outcome) × (p.answer ≡ number_answered outcome)
+    × (p.value ≡ value_of outcome) × (p.answer ≡ answer_number outcome)
 
 -- ---- a whole call
 
@@ -150,7 +150,7 @@ HasAnswered call number at asked answer o =
     × IsGiven at.third at.third_length asked.third.1 o.2
     × DoesCall call number (shown asked.held)
     (given_bytes o.0) (given_bytes o.1) (given_bytes o.2) o.3
-    × (answer ≡ number_answered o.3.outcome)
+    × (answer ≡ answer_number o.3.outcome)
 
 abbrev pub left_at : Passed → Asked → Done → Fml
 left_at at asked done =

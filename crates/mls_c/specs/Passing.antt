@@ -55,6 +55,11 @@ lists_at h p n q m made other = record (gives_at h p n q m made) { other = other
 abbrev pub seals_at : Ptr → Ptr → ℕ → Ptr → ℕ → Ptr → ℕ → Ptr → Passed
 seals_at h p n q m r k made = record (gives_at h p n q m made) { third = r; third_length = k }
 
+-- a handle and three texts, of which it makes two handles and tells a number
+abbrev pub runs_at : Ptr → Ptr → ℕ → Ptr → ℕ → Ptr → ℕ → Ptr → Ptr → Ptr → Passed
+runs_at h p n q m r k made other value =
+    record (seals_at h p n q m r k made) { other = other; value = value }
+
 -- a handle and a text, of which it makes two handles and tells a number
 abbrev pub opens_at : Ptr → Ptr → ℕ → Ptr → Ptr → Ptr → Passed
 opens_at h p n made other value = record (commits_at h p n made other) { value = value }

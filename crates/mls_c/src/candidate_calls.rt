@@ -5,11 +5,9 @@ ghost use Rattle.mls_c.specs.Memory.{Asked, asked_at, answered_at};
 ghost use Rattle.mls_c.specs.Passing.{begins_at, loads_at, makes_at};
 ghost use Rattle.mls_c.specs.declared.call.Call.TheVariants.{CandidateNew, CandidateKeyPackage, CandidateSave, CandidateLoad};
 
-use crate::call::Call;
 use crate::held::Handle;
-use crate::run::run;
+use crate::run::run_call;
 use std::alloc::Global;
-use std::ptr::{null, null_mut};
 
 /// A candidate of an identity and a seed of 32 bytes.
 #[unsafe(no_mangle)]
@@ -22,23 +20,17 @@ pub unsafe extern "C" fn mls_candidate_new(
     candidate: *mut *mut Handle,
 ) -> u32
     ghost asked: { Asked }
-    requires* memory { sem 𝓛 (asked_at (begins_at identity identity_length seed seed_length candidate) asked) }
-    ensures* memory { sem 𝓛 (answered_at CandidateNew 0 (begins_at identity identity_length seed seed_length candidate) asked result) }
+    requires* memory { sem 𝓛 (asked_at
+        (begins_at identity identity_length seed seed_length candidate) asked) }
+    ensures* memory { sem 𝓛 (answered_at CandidateNew 0
+        (begins_at identity identity_length seed seed_length candidate) asked result) }
 {
-    run(
+    run_call!(
         alloc,
-        Call::CandidateNew,
-        0,
-        null_mut(),
-        identity,
-        identity_length,
-        seed,
-        seed_length,
-        null(),
-        0,
-        candidate,
-        null_mut(),
-        null_mut(),
+        CandidateNew,
+        first = (identity, identity_length),
+        second = (seed, seed_length),
+        made = candidate
     )
 }
 
@@ -51,22 +43,14 @@ pub unsafe extern "C" fn mls_candidate_key_package(
 ) -> u32
     ghost asked: { Asked }
     requires* memory { sem 𝓛 (asked_at (makes_at candidate message) asked) }
-    ensures* memory { sem 𝓛 (answered_at CandidateKeyPackage 0 (makes_at candidate message) asked result) }
+    ensures* memory { sem 𝓛 (answered_at CandidateKeyPackage 0
+        (makes_at candidate message) asked result) }
 {
-    run(
+    run_call!(
         alloc,
-        Call::CandidateKeyPackage,
-        0,
-        candidate,
-        null(),
-        0,
-        null(),
-        0,
-        null(),
-        0,
-        message,
-        null_mut(),
-        null_mut(),
+        CandidateKeyPackage,
+        handle = candidate,
+        made = message
     )
 }
 
@@ -81,21 +65,7 @@ pub unsafe extern "C" fn mls_candidate_save(
     requires* memory { sem 𝓛 (asked_at (makes_at candidate saved) asked) }
     ensures* memory { sem 𝓛 (answered_at CandidateSave 0 (makes_at candidate saved) asked result) }
 {
-    run(
-        alloc,
-        Call::CandidateSave,
-        0,
-        candidate,
-        null(),
-        0,
-        null(),
-        0,
-        null(),
-        0,
-        saved,
-        null_mut(),
-        null_mut(),
-    )
+    run_call!(alloc, CandidateSave, handle = candidate, made = saved)
 }
 
 /// The candidate that was saved so.
@@ -108,21 +78,13 @@ pub unsafe extern "C" fn mls_candidate_load(
 ) -> u32
     ghost asked: { Asked }
     requires* memory { sem 𝓛 (asked_at (loads_at saved saved_length candidate) asked) }
-    ensures* memory { sem 𝓛 (answered_at CandidateLoad 0 (loads_at saved saved_length candidate) asked result) }
+    ensures* memory { sem 𝓛 (answered_at CandidateLoad 0
+        (loads_at saved saved_length candidate) asked result) }
 {
-    run(
+    run_call!(
         alloc,
-        Call::CandidateLoad,
-        0,
-        null_mut(),
-        saved,
-        saved_length,
-        null(),
-        0,
-        null(),
-        0,
-        candidate,
-        null_mut(),
-        null_mut(),
+        CandidateLoad,
+        first = (saved, saved_length),
+        made = candidate
     )
 }

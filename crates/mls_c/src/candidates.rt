@@ -1,7 +1,7 @@
 //! Calls on bytes, and calls that make candidates and members.
 
 ghost use Rattle.std.specs.Prelude.{◌≡◌};
-ghost use Rattle.mls_c.specs.Calls.{Does, Makes, bytes_at, bytes_length, candidate_new, candidate_key_package, made_candidate, made_group, made_group_id, made_joined, made_package, member_create, member_epoch, member_group_id, member_join, member_leaf_index};
+ghost use Rattle.mls_c.specs.Calls.{Does, Makes, bytes_at, bytes_length, candidate_new, candidate_key_package, make_candidate, make_group, make_group_id, make_joiner, make_package, member_create, member_epoch, member_group_id, member_join, member_leaf_index};
 ghost use Rattle.mls_c.specs.Given.{text};
 ghost use Rattle.mls_c.specs.Shown.{shown};
 ghost use Rattle.mls_c.specs.declared.held.Held.TheVariants.{Nothing};
@@ -10,8 +10,8 @@ use crate::done::{Done, Fruit};
 use crate::error::MisuseError;
 use crate::given::Given;
 use crate::held::Held;
-use crate::make::{copied_fruit, fill, number, room};
-use crate::taken::{bytes_of, candidate_of, given, member_of, seed_of};
+use crate::make::{fill, fill_copy, number, room};
+use crate::taken::{bytes_in, bytes_of, candidate_of, member_of, seed_of};
 use mls::{Candidate, Member, Suite0001};
 use std::alloc::Global;
 
@@ -29,11 +29,11 @@ pub(crate) fn bytes_length(held: Held) -> Done
 }
 
 /// A candidate in a handle of its own.
-#[tactic(auto, unfolding(crate::specs::Calls::made_candidate))]
-fn made_candidate(alloc: Global, identity: &Given, seed: &Given) -> Result<Fruit, u32>
-    ensures { Makes (made_candidate (text identity.now) (text seed.now)) result }
+#[tactic(auto, unfolding(crate::specs::Calls::make_candidate))]
+fn make_candidate(alloc: Global, identity: &Given, seed: &Given) -> Result<Fruit, u32>
+    ensures { Makes (make_candidate (text identity.now) (text seed.now)) result }
 {
-    let identity = given(identity)?;
+    let identity = bytes_in(identity)?;
     let seed = seed_of(seed)?;
     let room = room(alloc)?;
     match Candidate::new(alloc, identity, &seed) {
@@ -45,20 +45,21 @@ fn made_candidate(alloc: Global, identity: &Given, seed: &Given) -> Result<Fruit
 /// A candidate of an identity and a seed.
 #[tactic(auto, unfolding(crate::specs::Calls::candidate_new))]
 pub(crate) fn candidate_new(alloc: Global, held: Held, identity: &Given, seed: &Given) -> Done
-    ensures does { Does (candidate_new (shown held) (text identity.now) (text seed.now)) (shown held) result }
+    ensures does { Does (candidate_new (shown held) (text identity.now) (text seed.now))
+        (shown held) result }
     ensures stays { held ≡ Nothing → result.held ≡ Nothing }
 {
-    let outcome = made_candidate(alloc, identity, seed);
+    let outcome = make_candidate(alloc, identity, seed);
     Done { held, outcome }
 }
 
 /// The message of a candidate's KeyPackage in a handle.
-#[tactic(auto, unfolding(crate::specs::Calls::made_package))]
-fn made_package(alloc: Global, held: &Held) -> Result<Fruit, u32>
-    ensures { Makes (made_package (shown held.now)) result }
+#[tactic(auto, unfolding(crate::specs::Calls::make_package))]
+fn make_package(alloc: Global, held: &Held) -> Result<Fruit, u32>
+    ensures { Makes (make_package (shown held.now)) result }
 {
     let candidate = candidate_of(held)?;
-    copied_fruit(alloc, candidate.message())
+    fill_copy(alloc, candidate.message())
 }
 
 /// The message of a candidate's KeyPackage.
@@ -67,17 +68,17 @@ pub(crate) fn candidate_key_package(alloc: Global, held: Held) -> Done
     ensures does { Does (candidate_key_package (shown held)) (shown held) result }
     ensures stays { held ≡ Nothing → result.held ≡ Nothing }
 {
-    let outcome = made_package(alloc, &held);
+    let outcome = make_package(alloc, &held);
     Done { held, outcome }
 }
 
 /// The group of a candidate alone, in a handle.
-#[tactic(auto, unfolding(crate::specs::Calls::made_group))]
-fn made_group(alloc: Global, held: &Held, group: &Given, seed: &Given) -> Result<Fruit, u32>
-    ensures { Makes (made_group (shown held.now) (text group.now) (text seed.now)) result }
+#[tactic(auto, unfolding(crate::specs::Calls::make_group))]
+fn make_group(alloc: Global, held: &Held, group: &Given, seed: &Given) -> Result<Fruit, u32>
+    ensures { Makes (make_group (shown held.now) (text group.now) (text seed.now)) result }
 {
     let candidate = candidate_of(held)?;
-    let group = given(group)?;
+    let group = bytes_in(group)?;
     let seed = seed_of(seed)?;
     let room = room(alloc)?;
     match Member::<Suite0001>::create(alloc, candidate, group, &seed) {
@@ -89,20 +90,21 @@ fn made_group(alloc: Global, held: &Held, group: &Given, seed: &Given) -> Result
 /// The group of a candidate alone.
 #[tactic(auto, unfolding(crate::specs::Calls::member_create))]
 pub(crate) fn member_create(alloc: Global, held: Held, group: &Given, seed: &Given) -> Done
-    ensures does { Does (member_create (shown held) (text group.now) (text seed.now)) (shown held) result }
+    ensures does { Does (member_create (shown held) (text group.now) (text seed.now))
+        (shown held) result }
     ensures stays { held ≡ Nothing → result.held ≡ Nothing }
 {
-    let outcome = made_group(alloc, &held, group, seed);
+    let outcome = make_group(alloc, &held, group, seed);
     Done { held, outcome }
 }
 
 /// The member that a Welcome makes of a candidate, in a handle.
-#[tactic(auto, unfolding(crate::specs::Calls::made_joined))]
-fn made_joined(alloc: Global, held: &Held, welcome: &Given) -> Result<Fruit, u32>
-    ensures { Makes (made_joined (shown held.now) (text welcome.now)) result }
+#[tactic(auto, unfolding(crate::specs::Calls::make_joiner))]
+fn make_joiner(alloc: Global, held: &Held, welcome: &Given) -> Result<Fruit, u32>
+    ensures { Makes (make_joiner (shown held.now) (text welcome.now)) result }
 {
     let candidate = candidate_of(held)?;
-    let welcome = given(welcome)?;
+    let welcome = bytes_in(welcome)?;
     let room = room(alloc)?;
     match Member::<Suite0001>::join(alloc, candidate, welcome) {
         Ok(joined) => Ok(fill(room, Held::Member(joined.member))),
@@ -116,7 +118,7 @@ pub(crate) fn member_join(alloc: Global, held: Held, welcome: &Given) -> Done
     ensures does { Does (member_join (shown held) (text welcome.now)) (shown held) result }
     ensures stays { held ≡ Nothing → result.held ≡ Nothing }
 {
-    let outcome = made_joined(alloc, &held, welcome);
+    let outcome = make_joiner(alloc, &held, welcome);
     Done { held, outcome }
 }
 
@@ -134,12 +136,12 @@ pub(crate) fn member_epoch(held: Held) -> Done
 }
 
 /// The identifier of a member's group in a handle.
-#[tactic(auto, unfolding(crate::specs::Calls::made_group_id))]
-fn made_group_id(alloc: Global, held: &Held) -> Result<Fruit, u32>
-    ensures { Makes (made_group_id (shown held.now)) result }
+#[tactic(auto, unfolding(crate::specs::Calls::make_group_id))]
+fn make_group_id(alloc: Global, held: &Held) -> Result<Fruit, u32>
+    ensures { Makes (make_group_id (shown held.now)) result }
 {
     let member = member_of(held)?;
-    copied_fruit(alloc, member.group_id())
+    fill_copy(alloc, member.group_id())
 }
 
 /// The identifier of a member's group.
@@ -148,7 +150,7 @@ pub(crate) fn member_group_id(alloc: Global, held: Held) -> Done
     ensures does { Does (member_group_id (shown held)) (shown held) result }
     ensures stays { held ≡ Nothing → result.held ≡ Nothing }
 {
-    let outcome = made_group_id(alloc, &held);
+    let outcome = make_group_id(alloc, &held);
     Done { held, outcome }
 }
 

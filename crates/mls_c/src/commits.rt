@@ -4,7 +4,7 @@ ghost use Rattle.std.specs.Prelude.{◌≡◌, option_map, map, IfOk};
 ghost use Rattle.mls_wire.specs.Checks.{Answers};
 ghost use Rattle.mls_model.specs.Make.{listed_of};
 ghost use Rattle.mls_member.specs.Answers.{IsShortItem, AreShortItems};
-ghost use Rattle.mls_c.specs.Calls.{Changes, Does, committed, committed_list, member_commit, member_commit_kept, on_member, some_proposals};
+ghost use Rattle.mls_c.specs.Calls.{Changes, Does, commit_kept_list, commit_given_list, member_commit, member_commit_kept, on_member, some_proposals};
 ghost use Rattle.mls_c.specs.Given.{text};
 ghost use Rattle.mls_c.specs.Listing.{IsShortListed, AreShortListed, ListsItems};
 ghost use Rattle.mls_c.specs.Shown.{shown};
@@ -14,7 +14,7 @@ use crate::done::{Done, Fruit};
 use crate::given::{Given, OUT_OF_MEMORY};
 use crate::held::Held;
 use crate::make::{room, two};
-use crate::taken::{given, seed_of, take_member};
+use crate::taken::{bytes_in, seed_of, take_member};
 use mls::{Bytes, Item, Member, Suite0001};
 use mls_leaf::{Codec, Items};
 use mls_types::ProposalOrRef;
@@ -31,14 +31,15 @@ fn text_of(welcome: Option<Vec<u8>>) -> Option<Bytes>
 }
 
 /// A commit of what a member keeps.
-#[tactic(auto, unfolding(crate::specs::Calls::committed))]
-fn committed(
+#[tactic(auto, unfolding(crate::specs::Calls::commit_kept_list))]
+fn commit_kept_list(
     alloc: Global,
     member: &mut Member<Suite0001>,
     path: u64,
     seed: &Given,
 ) -> Result<Fruit, u32>
-    ensures { Changes (committed path (text seed.now) member.old) member.old member.new result }
+    ensures { Changes (commit_kept_list path (text seed.now) member.old)
+        member.old member.new result }
 {
     let seed = seed_of(seed)?;
     let commit_room = room(alloc)?;
@@ -61,16 +62,10 @@ pub(crate) fn member_commit_kept(alloc: Global, held: Held, path: u64, seed: &Gi
 {
     match take_member(held) {
         Ok(mut member) => {
-            let outcome = committed(alloc, &mut member, path, seed);
-            Done {
-                held: Held::Member(member),
-                outcome,
-            }
+            let outcome = commit_kept_list(alloc, &mut member, path, seed);
+            Done::of_member(member, outcome)
         }
-        Err((held, number)) => Done {
-            held,
-            outcome: Err(number),
-        },
+        Err((held, number)) => Done::of_refusal(held, number),
     }
 }
 
@@ -80,7 +75,7 @@ fn list_of(alloc: Global, proposals: &Given) -> Result<Items<ProposalOrRef>, u32
     ensures list { Answers (λ l. l) (λ n. n) (some_proposals (text proposals.now)) result }
     ensures short { IfOk result (λ l. AreShortListed l) }
 {
-    let bytes = given(proposals)?;
+    let bytes = bytes_in(proposals)?;
     match Items::<ProposalOrRef>::decode(alloc, bytes) {
         Ok(list) => Ok(list),
         Err(error) => Err(error.number() as u32),
@@ -130,15 +125,16 @@ fn given_items(alloc: Global, proposals: &Given) -> Result<Vec<Item>, u32>
 }
 
 /// A commit of a list.
-#[tactic(auto, unfolding(crate::specs::Calls::committed_list))]
-fn committed_list(
+#[tactic(auto, unfolding(crate::specs::Calls::commit_given_list))]
+fn commit_given_list(
     alloc: Global,
     member: &mut Member<Suite0001>,
     proposals: &Given,
     path: u64,
     seed: &Given,
 ) -> Result<Fruit, u32>
-    ensures { Changes (committed_list (text proposals.now) path (text seed.now) member.old) member.old member.new result }
+    ensures { Changes (commit_given_list (text proposals.now) path (text seed.now) member.old)
+        member.old member.new result }
 {
     let items = given_items(alloc, proposals)?;
     let seed = seed_of(seed)?;
@@ -163,20 +159,15 @@ pub(crate) fn member_commit(
     path: u64,
     seed: &Given,
 ) -> Done
-    ensures does { Does (member_commit (shown held) (text proposals.now) path (text seed.now)) (shown held) result }
+    ensures does { Does (member_commit (shown held) (text proposals.now) path (text seed.now))
+        (shown held) result }
     ensures stays { held ≡ Nothing → result.held ≡ Nothing }
 {
     match take_member(held) {
         Ok(mut member) => {
-            let outcome = committed_list(alloc, &mut member, proposals, path, seed);
-            Done {
-                held: Held::Member(member),
-                outcome,
-            }
+            let outcome = commit_given_list(alloc, &mut member, proposals, path, seed);
+            Done::of_member(member, outcome)
         }
-        Err((held, number)) => Done {
-            held,
-            outcome: Err(number),
-        },
+        Err((held, number)) => Done::of_refusal(held, number),
     }
 }

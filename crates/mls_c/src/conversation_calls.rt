@@ -5,11 +5,9 @@ ghost use Rattle.mls_c.specs.Memory.{Asked, asked_at, answered_at};
 ghost use Rattle.mls_c.specs.Passing.{makes_at, opens_at, seals_at};
 ghost use Rattle.mls_c.specs.declared.call.Call.TheVariants.{ConversationNew, ConversationSeal, ConversationOpen};
 
-use crate::call::Call;
 use crate::held::Handle;
-use crate::run::run;
+use crate::run::run_call;
 use std::alloc::Global;
-use std::ptr::{null, null_mut};
 
 /// The conversation of a member in its epoch, in which no key was used yet (RFC 9420, 9).
 #[unsafe(no_mangle)]
@@ -20,23 +18,10 @@ pub unsafe extern "C" fn mls_conversation_new(
 ) -> u32
     ghost asked: { Asked }
     requires* memory { sem 𝓛 (asked_at (makes_at member conversation) asked) }
-    ensures* memory { sem 𝓛 (answered_at ConversationNew 0 (makes_at member conversation) asked result) }
+    ensures* memory { sem 𝓛 (answered_at ConversationNew 0
+        (makes_at member conversation) asked result) }
 {
-    run(
-        alloc,
-        Call::ConversationNew,
-        0,
-        member,
-        null(),
-        0,
-        null(),
-        0,
-        null(),
-        0,
-        conversation,
-        null_mut(),
-        null_mut(),
-    )
+    run_call!(alloc, ConversationNew, handle = member, made = conversation)
 }
 
 /// A sealed message of application data, with authenticated data that isn't encrypted and so many bytes of padding
@@ -55,23 +40,22 @@ pub unsafe extern "C" fn mls_conversation_seal(
     message: *mut *mut Handle,
 ) -> u32
     ghost asked: { Asked }
-    requires* memory { sem 𝓛 (asked_at (seals_at conversation application_data application_data_length authenticated_data authenticated_data_length seed seed_length message) asked) }
-    ensures* memory { sem 𝓛 (answered_at ConversationSeal padding (seals_at conversation application_data application_data_length authenticated_data authenticated_data_length seed seed_length message) asked result) }
+    requires* memory { sem 𝓛 (asked_at
+        (seals_at conversation application_data application_data_length authenticated_data
+        authenticated_data_length seed seed_length message) asked) }
+    ensures* memory { sem 𝓛 (answered_at ConversationSeal padding
+        (seals_at conversation application_data application_data_length authenticated_data
+        authenticated_data_length seed seed_length message) asked result) }
 {
-    run(
+    run_call!(
         alloc,
-        Call::ConversationSeal,
-        padding,
-        conversation,
-        application_data,
-        application_data_length,
-        authenticated_data,
-        authenticated_data_length,
-        seed,
-        seed_length,
-        message,
-        null_mut(),
-        null_mut(),
+        ConversationSeal,
+        number = padding,
+        handle = conversation,
+        first = (application_data, application_data_length),
+        second = (authenticated_data, authenticated_data_length),
+        third = (seed, seed_length),
+        made = message
     )
 }
 
@@ -87,22 +71,20 @@ pub unsafe extern "C" fn mls_conversation_open(
     sender: *mut u64,
 ) -> u32
     ghost asked: { Asked }
-    requires* memory { sem 𝓛 (asked_at (opens_at conversation message message_length application_data authenticated_data sender) asked) }
-    ensures* memory { sem 𝓛 (answered_at ConversationOpen 0 (opens_at conversation message message_length application_data authenticated_data sender) asked result) }
+    requires* memory { sem 𝓛 (asked_at
+        (opens_at conversation message message_length application_data authenticated_data sender)
+        asked) }
+    ensures* memory { sem 𝓛 (answered_at ConversationOpen 0
+        (opens_at conversation message message_length application_data authenticated_data sender)
+        asked result) }
 {
-    run(
+    run_call!(
         alloc,
-        Call::ConversationOpen,
-        0,
-        conversation,
-        message,
-        message_length,
-        null(),
-        0,
-        null(),
-        0,
-        application_data,
-        authenticated_data,
-        sender,
+        ConversationOpen,
+        handle = conversation,
+        first = (message, message_length),
+        made = application_data,
+        other = authenticated_data,
+        value = sender
     )
 }

@@ -1,7 +1,7 @@
 //! Calls on conversations.
 
 ghost use Rattle.std.specs.Prelude.{◌≡◌};
-ghost use Rattle.mls_c.specs.Calls.{Changes, Does, Makes, a_seed, conversation_new, conversation_open, conversation_seal, made_conversation, on_conversation, opened, sealed};
+ghost use Rattle.mls_c.specs.Calls.{Changes, Does, Makes, a_seed, conversation_new, conversation_open, conversation_seal, make_conversation, on_conversation, open_data, seal_data};
 ghost use Rattle.mls_c.specs.Given.{text};
 ghost use Rattle.mls_c.specs.Shown.{shown};
 ghost use Rattle.mls_c.specs.declared.held.Held.TheVariants.{Nothing};
@@ -10,14 +10,14 @@ use crate::done::{Done, Fruit};
 use crate::given::Given;
 use crate::held::Held;
 use crate::make::{fill, fill_bytes, room, two};
-use crate::taken::{given, member_of, seed_of, take_conversation};
+use crate::taken::{bytes_in, member_of, seed_of, take_conversation};
 use mls::{Conversation, Suite0001};
 use std::alloc::Global;
 
 /// The conversation of a member, in a handle.
-#[tactic(auto, unfolding(crate::specs::Calls::made_conversation))]
-fn made_conversation(alloc: Global, held: &Held) -> Result<Fruit, u32>
-    ensures { Makes (made_conversation (shown held.now)) result }
+#[tactic(auto, unfolding(crate::specs::Calls::make_conversation))]
+fn make_conversation(alloc: Global, held: &Held) -> Result<Fruit, u32>
+    ensures { Makes (make_conversation (shown held.now)) result }
 {
     let member = member_of(held)?;
     let room = room(alloc)?;
@@ -33,13 +33,13 @@ pub(crate) fn conversation_new(alloc: Global, held: Held) -> Done
     ensures does { Does (conversation_new (shown held)) (shown held) result }
     ensures stays { held ≡ Nothing → result.held ≡ Nothing }
 {
-    let outcome = made_conversation(alloc, &held);
+    let outcome = make_conversation(alloc, &held);
     Done { held, outcome }
 }
 
 /// A sealed message of a conversation.
-#[tactic(auto, unfolding(crate::specs::Calls::sealed))]
-fn sealed(
+#[tactic(auto, unfolding(crate::specs::Calls::seal_data))]
+fn seal_data(
     alloc: Global,
     conversation: &mut Conversation<Suite0001>,
     padding: u64,
@@ -47,10 +47,11 @@ fn sealed(
     authenticated_data: &Given,
     seed: &Given,
 ) -> Result<Fruit, u32>
-    ensures { Changes (sealed (text application_data.now) (text authenticated_data.now) padding (text seed.now) conversation.old) conversation.old conversation.new result }
+    ensures { Changes (seal_data (text application_data.now) (text authenticated_data.now) padding
+        (text seed.now) conversation.old) conversation.old conversation.new result }
 {
-    let application_data = given(application_data)?;
-    let authenticated_data = given(authenticated_data)?;
+    let application_data = bytes_in(application_data)?;
+    let authenticated_data = bytes_in(authenticated_data)?;
     let seed = seed_of(seed)?;
     let room = room(alloc)?;
     match conversation.seal(
@@ -74,12 +75,13 @@ pub(crate) fn conversation_seal(
     authenticated_data: &Given,
     seed: &Given,
 ) -> Done
-    ensures does { Does (conversation_seal (shown held) padding (text application_data.now) (text authenticated_data.now) (text seed.now)) (shown held) result }
+    ensures does { Does (conversation_seal (shown held) padding (text application_data.now)
+        (text authenticated_data.now) (text seed.now)) (shown held) result }
     ensures stays { held ≡ Nothing → result.held ≡ Nothing }
 {
     match take_conversation(held) {
         Ok(mut conversation) => {
-            let outcome = sealed(
+            let outcome = seal_data(
                 alloc,
                 &mut conversation,
                 padding,
@@ -87,28 +89,23 @@ pub(crate) fn conversation_seal(
                 authenticated_data,
                 seed,
             );
-            Done {
-                held: Held::Conversation(conversation),
-                outcome,
-            }
+            Done::of_conversation(conversation, outcome)
         }
-        Err((held, number)) => Done {
-            held,
-            outcome: Err(number),
-        },
+        Err((held, number)) => Done::of_refusal(held, number),
     }
 }
 
 /// What a conversation opens of a message. All memory is taken before it is opened, so that no key is lost.
-#[tactic(auto, unfolding(crate::specs::Calls::opened))]
-fn opened(
+#[tactic(auto, unfolding(crate::specs::Calls::open_data))]
+fn open_data(
     alloc: Global,
     conversation: &mut Conversation<Suite0001>,
     message: &Given,
 ) -> Result<Fruit, u32>
-    ensures { Changes (opened (text message.now) conversation.old) conversation.old conversation.new result }
+    ensures { Changes (open_data (text message.now) conversation.old)
+        conversation.old conversation.new result }
 {
-    let message = given(message)?;
+    let message = bytes_in(message)?;
     let data_room = room(alloc)?;
     let authenticated_room = room(alloc)?;
     match conversation.open(message) {
@@ -131,15 +128,9 @@ pub(crate) fn conversation_open(alloc: Global, held: Held, message: &Given) -> D
 {
     match take_conversation(held) {
         Ok(mut conversation) => {
-            let outcome = opened(alloc, &mut conversation, message);
-            Done {
-                held: Held::Conversation(conversation),
-                outcome,
-            }
+            let outcome = open_data(alloc, &mut conversation, message);
+            Done::of_conversation(conversation, outcome)
         }
-        Err((held, number)) => Done {
-            held,
-            outcome: Err(number),
-        },
+        Err((held, number)) => Done::of_refusal(held, number),
     }
 }

@@ -2,19 +2,19 @@
 
 ghost use Rattle.std.specs.Prelude.{◌≡◌};
 ghost use types.Logic.{sem};
-ghost use Rattle.mls_c.specs.Calls.{Copies, copied_bytes};
+ghost use Rattle.mls_c.specs.Calls.{Copies, bytes_for};
 ghost use Rattle.mls_c.specs.Memory.{held_at};
 ghost use Rattle.mls_c.specs.Shown.{shown};
 ghost use Rattle.mls_c.specs.declared.held.Held.{Held};
 
 use crate::error::MisuseError;
 use crate::held::{Handle, Held};
-use crate::pointer::{let_go, nothing, swapped};
+use crate::pointer::{let_go, nothing, swap_held};
 use crate::taken::bytes_of;
 
 /// What the handle holds after a copy, and what the call answers.
 #[derive(Drop)]
-pub struct Copied {
+pub struct CopyOutcome {
     /// What the handle holds.
     pub held: Held,
     /// What the call answers.
@@ -22,8 +22,8 @@ pub struct Copied {
 }
 
 /// Copies bytes into a buffer of just their length.
-#[tactic(auto, unfolding(crate::specs::Calls::copied_bytes))]
-fn filled(held: &Held, buffer: &mut [u8]) -> u32
+#[tactic(auto, unfolding(crate::specs::Calls::bytes_for))]
+fn fill_buffer(held: &Held, buffer: &mut [u8]) -> u32
     ensures { Copies (shown held.now) buffer.old buffer.new result }
 {
     match bytes_of(held) {
@@ -39,12 +39,12 @@ fn filled(held: &Held, buffer: &mut [u8]) -> u32
 }
 
 /// Copies what is held into a buffer of just its length.
-pub(crate) fn copy_out(held: Held, buffer: &mut [u8]) -> Copied
+pub(crate) fn copy_out(held: Held, buffer: &mut [u8]) -> CopyOutcome
     ensures held { result.held ≡ held }
     ensures value { Copies (shown held) buffer.old buffer.new result.answer }
 {
-    let answer = filled(&held, buffer);
-    Copied { held, answer }
+    let answer = fill_buffer(&held, buffer);
+    CopyOutcome { held, answer }
 }
 
 /// Copies the bytes of a handle into a buffer of just their length.
@@ -54,8 +54,8 @@ pub(crate) unsafe fn copy_bytes(at: *mut Handle, buffer: &mut [u8]) -> u32
     ensures value { Copies (shown held) buffer.old buffer.new result }
     ensures* memory { sem 𝓛 (held_at at held) }
 {
-    let held = swapped(at, nothing());
-    let Copied { held, answer } = copy_out(held, buffer);
-    let_go(swapped(at, held));
+    let held = swap_held(at, nothing());
+    let CopyOutcome { held, answer } = copy_out(held, buffer);
+    let_go(swap_held(at, held));
     answer
 }

@@ -1,9 +1,11 @@
 //! What a call leaves.
 
-ghost use Rattle.std.specs.Prelude.{◌≡◌};
-ghost use Rattle.mls_c.specs.Memory.{IsParted};
+ghost use Rattle.std.specs.Prelude.{◌≡◌, Err};
+ghost use Rattle.mls_c.specs.Memory.{ArePartsOf};
+ghost use Rattle.mls_c.specs.declared.held.Held.TheVariants as variants;
 
 use crate::held::Held;
+use mls::{Conversation, Member, Suite0001};
 
 /// What a call makes: what two handles hold, and a number.
 #[derive(Drop)]
@@ -25,6 +27,44 @@ pub struct Done {
     pub outcome: Result<Fruit, u32>,
 }
 
+impl Done {
+    /// What is left of a call on a member.
+    pub(crate) fn of_member(member: Member<Suite0001>, outcome: Result<Fruit, u32>) -> Done
+        ensures held { result.held ≡ variants.Member member }
+        ensures outcome { result.outcome ≡ outcome }
+    {
+        Done {
+            held: Held::Member(member),
+            outcome,
+        }
+    }
+
+    /// What is left of a call on a conversation.
+    pub(crate) fn of_conversation(
+        conversation: Conversation<Suite0001>,
+        outcome: Result<Fruit, u32>,
+    ) -> Done
+        ensures held { result.held ≡ variants.Conversation conversation }
+        ensures outcome { result.outcome ≡ outcome }
+    {
+        Done {
+            held: Held::Conversation(conversation),
+            outcome,
+        }
+    }
+
+    /// What is left of a call that was refused.
+    pub(crate) fn of_refusal(held: Held, number: u32) -> Done
+        ensures held { result.held ≡ held }
+        ensures outcome { result.outcome ≡ Err number }
+    {
+        Done {
+            held,
+            outcome: Err(number),
+        }
+    }
+}
+
 /// What a call writes, and what it answers.
 #[derive(Drop)]
 pub struct Parts {
@@ -39,8 +79,8 @@ pub struct Parts {
 }
 
 /// The parts of an outcome.
-pub(crate) fn parted(outcome: Result<Fruit, u32>) -> Parts
-    ensures { IsParted outcome result }
+pub(crate) fn parts_of(outcome: Result<Fruit, u32>) -> Parts
+    ensures { ArePartsOf outcome result }
 {
     match outcome {
         Ok(fruit) => Parts {

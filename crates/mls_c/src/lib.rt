@@ -2,7 +2,6 @@
 //! 0 where it is good; after a refusal its handle is as before.
 #![tactic(auto)]
 
-mod answered;
 mod call;
 mod candidate_calls;
 mod candidates;
@@ -10,6 +9,7 @@ mod commits;
 mod conversation_calls;
 mod conversations;
 mod copying;
+mod dispatch;
 mod done;
 mod error;
 mod given;
@@ -29,27 +29,25 @@ ghost use Rattle.std.specs.Prelude.{◌≡◌};
 ghost use types.Logic.{sem};
 ghost use Rattle.mls_c.specs.Calls.{Copies};
 ghost use Rattle.mls_c.specs.Shown.{shown};
-ghost use Rattle.mls_c.specs.Memory.{Asked, asked_at, answered_at, freed_number, held_at};
+ghost use Rattle.mls_c.specs.Memory.{Asked, asked_at, answered_at, free_answer, held_at};
 ghost use Rattle.mls_c.specs.Passing.{names_at, tells_at};
 ghost use Rattle.mls_c.specs.declared.held.Held.{Held};
 ghost use Rattle.mls_c.specs.declared.call.Call.TheVariants.{BytesLength, BytesAt, RefusalName};
 
-use call::Call;
 use copying::copy_bytes;
 pub use held::Handle;
-use pointer::freed;
-use run::run;
+use pointer::free_handle;
+use run::run_call;
 use std::alloc::Global;
-use std::ptr::{null, null_mut};
 
 /// Frees a handle, and answers 0, or `NullHandle` (130).
 #[unsafe(no_mangle)]
 pub unsafe extern "C" fn mls_free(alloc: Global, handle: *mut Handle) -> u32
     ghost held: { Held }
     requires* memory { sem 𝓛 (held_at handle held) }
-    ensures { result ≡ freed_number handle }
+    ensures { result ≡ free_answer handle }
 {
-    freed(alloc, handle)
+    free_handle(alloc, handle)
 }
 
 /// Copies bytes into a buffer of just their length: `BufferLength` (135) where it has another, and is as it was.
@@ -74,21 +72,7 @@ pub unsafe extern "C" fn mls_bytes_length(
     requires* memory { sem 𝓛 (asked_at (tells_at bytes length) asked) }
     ensures* memory { sem 𝓛 (answered_at BytesLength 0 (tells_at bytes length) asked result) }
 {
-    run(
-        alloc,
-        Call::BytesLength,
-        0,
-        bytes,
-        null(),
-        0,
-        null(),
-        0,
-        null(),
-        0,
-        null_mut(),
-        null_mut(),
-        length,
-    )
+    run_call!(alloc, BytesLength, handle = bytes, value = length)
 }
 
 /// The byte at an index of bytes, or `BufferLength` (135).
@@ -103,21 +87,7 @@ pub unsafe extern "C" fn mls_bytes_at(
     requires* memory { sem 𝓛 (asked_at (tells_at bytes byte) asked) }
     ensures* memory { sem 𝓛 (answered_at BytesAt index (tells_at bytes byte) asked result) }
 {
-    run(
-        alloc,
-        Call::BytesAt,
-        index,
-        bytes,
-        null(),
-        0,
-        null(),
-        0,
-        null(),
-        0,
-        null_mut(),
-        null_mut(),
-        byte,
-    )
+    run_call!(alloc, BytesAt, number = index, handle = bytes, value = byte)
 }
 
 /// The name of a refusal, by its number; no bytes where no refusal has it.
@@ -127,19 +97,5 @@ pub unsafe extern "C" fn mls_refusal_name(alloc: Global, number: u64, name: *mut
     requires* memory { sem 𝓛 (asked_at (names_at name) asked) }
     ensures* memory { sem 𝓛 (answered_at RefusalName number (names_at name) asked result) }
 {
-    run(
-        alloc,
-        Call::RefusalName,
-        number,
-        null_mut(),
-        null(),
-        0,
-        null(),
-        0,
-        null(),
-        0,
-        name,
-        null_mut(),
-        null_mut(),
-    )
+    run_call!(alloc, RefusalName, number = number, made = name)
 }

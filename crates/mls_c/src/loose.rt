@@ -46,6 +46,7 @@ impl<T: Drop, A: Allocator> Loose<T, A> {
     /// The box of a pointer that isn't null.
     pub(crate) fn into_box(self) -> Box<T, A>
         requires { InBlock self.at }
+        ensures { self.value ≡ Some result.value }
     {
         let Loose { at, alloc } = self;
         unsafe { Box::from_raw(alloc, at) }

@@ -51,7 +51,7 @@ pub(crate) fn fill_bytes(room: Box<Held>, bytes: Vec<u8>) -> Fruit
 }
 
 /// A copy of bytes, which one handle holds, or `OutOfMemory` (1).
-pub(crate) fn copied_fruit(alloc: Global, bytes: &[u8]) -> Result<Fruit, u32>
+pub(crate) fn fill_copy(alloc: Global, bytes: &[u8]) -> Result<Fruit, u32>
     ensures { MatchResult result (λ f. fruits f ≡ makes (shown_bytes bytes.now)) (λ n. n ≡ 1) }
 {
     let room = room(alloc)?;

@@ -5,11 +5,9 @@ ghost use Rattle.mls_c.specs.Memory.{Asked, asked_at, answered_at};
 ghost use Rattle.mls_c.specs.Passing.{commits_at, finds_at, follows_at, gives_at, lists_at, loads_at, makes_at, takes_at, tells_at};
 ghost use Rattle.mls_c.specs.declared.call.Call.TheVariants.{MemberCreate, MemberJoin, MemberEpoch, MemberGroupId, MemberProcess, MemberProposeAdd, MemberProposeUpdate, MemberCommitKept, MemberProposeRemove, MemberDropPending, MemberLeafIndex, MemberSave, MemberLoad, MemberExport, MemberLeafCount, MemberAt, MemberProposeExtensions, MemberCommit};
 
-use crate::call::Call;
 use crate::held::Handle;
-use crate::run::run;
+use crate::run::run_call;
 use std::alloc::Global;
-use std::ptr::{null, null_mut};
 
 /// The group of a candidate alone, whose epoch secret is the seed (RFC 9420, 11).
 #[unsafe(no_mangle)]
@@ -23,23 +21,18 @@ pub unsafe extern "C" fn mls_member_create(
     member: *mut *mut Handle,
 ) -> u32
     ghost asked: { Asked }
-    requires* memory { sem 𝓛 (asked_at (gives_at candidate group_id group_id_length seed seed_length member) asked) }
-    ensures* memory { sem 𝓛 (answered_at MemberCreate 0 (gives_at candidate group_id group_id_length seed seed_length member) asked result) }
+    requires* memory { sem 𝓛 (asked_at
+        (gives_at candidate group_id group_id_length seed seed_length member) asked) }
+    ensures* memory { sem 𝓛 (answered_at MemberCreate 0
+        (gives_at candidate group_id group_id_length seed seed_length member) asked result) }
 {
-    run(
+    run_call!(
         alloc,
-        Call::MemberCreate,
-        0,
-        candidate,
-        group_id,
-        group_id_length,
-        seed,
-        seed_length,
-        null(),
-        0,
-        member,
-        null_mut(),
-        null_mut(),
+        MemberCreate,
+        handle = candidate,
+        first = (group_id, group_id_length),
+        second = (seed, seed_length),
+        made = member
     )
 }
 
@@ -54,22 +47,15 @@ pub unsafe extern "C" fn mls_member_join(
 ) -> u32
     ghost asked: { Asked }
     requires* memory { sem 𝓛 (asked_at (takes_at candidate welcome welcome_length member) asked) }
-    ensures* memory { sem 𝓛 (answered_at MemberJoin 0 (takes_at candidate welcome welcome_length member) asked result) }
+    ensures* memory { sem 𝓛 (answered_at MemberJoin 0
+        (takes_at candidate welcome welcome_length member) asked result) }
 {
-    run(
+    run_call!(
         alloc,
-        Call::MemberJoin,
-        0,
-        candidate,
-        welcome,
-        welcome_length,
-        null(),
-        0,
-        null(),
-        0,
-        member,
-        null_mut(),
-        null_mut(),
+        MemberJoin,
+        handle = candidate,
+        first = (welcome, welcome_length),
+        made = member
     )
 }
 
@@ -84,21 +70,7 @@ pub unsafe extern "C" fn mls_member_save(
     requires* memory { sem 𝓛 (asked_at (makes_at member saved) asked) }
     ensures* memory { sem 𝓛 (answered_at MemberSave 0 (makes_at member saved) asked result) }
 {
-    run(
-        alloc,
-        Call::MemberSave,
-        0,
-        member,
-        null(),
-        0,
-        null(),
-        0,
-        null(),
-        0,
-        saved,
-        null_mut(),
-        null_mut(),
-    )
+    run_call!(alloc, MemberSave, handle = member, made = saved)
 }
 
 /// The member that was saved so.
@@ -111,22 +83,14 @@ pub unsafe extern "C" fn mls_member_load(
 ) -> u32
     ghost asked: { Asked }
     requires* memory { sem 𝓛 (asked_at (loads_at saved saved_length member) asked) }
-    ensures* memory { sem 𝓛 (answered_at MemberLoad 0 (loads_at saved saved_length member) asked result) }
+    ensures* memory { sem 𝓛 (answered_at MemberLoad 0
+        (loads_at saved saved_length member) asked result) }
 {
-    run(
+    run_call!(
         alloc,
-        Call::MemberLoad,
-        0,
-        null_mut(),
-        saved,
-        saved_length,
-        null(),
-        0,
-        null(),
-        0,
-        member,
-        null_mut(),
-        null_mut(),
+        MemberLoad,
+        first = (saved, saved_length),
+        made = member
     )
 }
 
@@ -141,21 +105,7 @@ pub unsafe extern "C" fn mls_member_epoch(
     requires* memory { sem 𝓛 (asked_at (tells_at member epoch) asked) }
     ensures* memory { sem 𝓛 (answered_at MemberEpoch 0 (tells_at member epoch) asked result) }
 {
-    run(
-        alloc,
-        Call::MemberEpoch,
-        0,
-        member,
-        null(),
-        0,
-        null(),
-        0,
-        null(),
-        0,
-        null_mut(),
-        null_mut(),
-        epoch,
-    )
+    run_call!(alloc, MemberEpoch, handle = member, value = epoch)
 }
 
 /// The identifier of a member's group.
@@ -169,21 +119,7 @@ pub unsafe extern "C" fn mls_member_group_id(
     requires* memory { sem 𝓛 (asked_at (makes_at member group_id) asked) }
     ensures* memory { sem 𝓛 (answered_at MemberGroupId 0 (makes_at member group_id) asked result) }
 {
-    run(
-        alloc,
-        Call::MemberGroupId,
-        0,
-        member,
-        null(),
-        0,
-        null(),
-        0,
-        null(),
-        0,
-        group_id,
-        null_mut(),
-        null_mut(),
-    )
+    run_call!(alloc, MemberGroupId, handle = member, made = group_id)
 }
 
 /// The index of a member's leaf.
@@ -197,21 +133,7 @@ pub unsafe extern "C" fn mls_member_leaf_index(
     requires* memory { sem 𝓛 (asked_at (tells_at member leaf) asked) }
     ensures* memory { sem 𝓛 (answered_at MemberLeafIndex 0 (tells_at member leaf) asked result) }
 {
-    run(
-        alloc,
-        Call::MemberLeafIndex,
-        0,
-        member,
-        null(),
-        0,
-        null(),
-        0,
-        null(),
-        0,
-        null_mut(),
-        null_mut(),
-        leaf,
-    )
+    run_call!(alloc, MemberLeafIndex, handle = member, value = leaf)
 }
 
 /// The number of leaves of a member's group.
@@ -225,21 +147,7 @@ pub unsafe extern "C" fn mls_member_leaf_count(
     requires* memory { sem 𝓛 (asked_at (tells_at member count) asked) }
     ensures* memory { sem 𝓛 (answered_at MemberLeafCount 0 (tells_at member count) asked result) }
 {
-    run(
-        alloc,
-        Call::MemberLeafCount,
-        0,
-        member,
-        null(),
-        0,
-        null(),
-        0,
-        null(),
-        0,
-        null_mut(),
-        null_mut(),
-        count,
-    )
+    run_call!(alloc, MemberLeafCount, handle = member, value = count)
 }
 
 /// The identity and the signature key of the member at a leaf, or `NoSuchLeaf` (22).
@@ -253,22 +161,16 @@ pub unsafe extern "C" fn mls_member_at(
 ) -> u32
     ghost asked: { Asked }
     requires* memory { sem 𝓛 (asked_at (finds_at member identity signature_key) asked) }
-    ensures* memory { sem 𝓛 (answered_at MemberAt leaf (finds_at member identity signature_key) asked result) }
+    ensures* memory { sem 𝓛 (answered_at MemberAt leaf
+        (finds_at member identity signature_key) asked result) }
 {
-    run(
+    run_call!(
         alloc,
-        Call::MemberAt,
-        leaf,
-        member,
-        null(),
-        0,
-        null(),
-        0,
-        null(),
-        0,
-        identity,
-        signature_key,
-        null_mut(),
+        MemberAt,
+        number = leaf,
+        handle = member,
+        made = identity,
+        other = signature_key
     )
 }
 
@@ -285,23 +187,19 @@ pub unsafe extern "C" fn mls_member_export(
     secret: *mut *mut Handle,
 ) -> u32
     ghost asked: { Asked }
-    requires* memory { sem 𝓛 (asked_at (gives_at member label label_length context context_length secret) asked) }
-    ensures* memory { sem 𝓛 (answered_at MemberExport secret_length (gives_at member label label_length context context_length secret) asked result) }
+    requires* memory { sem 𝓛 (asked_at
+        (gives_at member label label_length context context_length secret) asked) }
+    ensures* memory { sem 𝓛 (answered_at MemberExport secret_length
+        (gives_at member label label_length context context_length secret) asked result) }
 {
-    run(
+    run_call!(
         alloc,
-        Call::MemberExport,
-        secret_length,
-        member,
-        label,
-        label_length,
-        context,
-        context_length,
-        null(),
-        0,
-        secret,
-        null_mut(),
-        null_mut(),
+        MemberExport,
+        number = secret_length,
+        handle = member,
+        first = (label, label_length),
+        second = (context, context_length),
+        made = secret
     )
 }
 
@@ -317,22 +215,15 @@ pub unsafe extern "C" fn mls_member_process(
 ) -> u32
     ghost asked: { Asked }
     requires* memory { sem 𝓛 (asked_at (follows_at member message message_length effect) asked) }
-    ensures* memory { sem 𝓛 (answered_at MemberProcess 0 (follows_at member message message_length effect) asked result) }
+    ensures* memory { sem 𝓛 (answered_at MemberProcess 0
+        (follows_at member message message_length effect) asked result) }
 {
-    run(
+    run_call!(
         alloc,
-        Call::MemberProcess,
-        0,
-        member,
-        message,
-        message_length,
-        null(),
-        0,
-        null(),
-        0,
-        null_mut(),
-        null_mut(),
-        effect,
+        MemberProcess,
+        handle = member,
+        first = (message, message_length),
+        value = effect
     )
 }
 
@@ -346,23 +237,17 @@ pub unsafe extern "C" fn mls_member_propose_add(
     message: *mut *mut Handle,
 ) -> u32
     ghost asked: { Asked }
-    requires* memory { sem 𝓛 (asked_at (takes_at member key_package key_package_length message) asked) }
-    ensures* memory { sem 𝓛 (answered_at MemberProposeAdd 0 (takes_at member key_package key_package_length message) asked result) }
+    requires* memory { sem 𝓛 (asked_at
+        (takes_at member key_package key_package_length message) asked) }
+    ensures* memory { sem 𝓛 (answered_at MemberProposeAdd 0
+        (takes_at member key_package key_package_length message) asked result) }
 {
-    run(
+    run_call!(
         alloc,
-        Call::MemberProposeAdd,
-        0,
-        member,
-        key_package,
-        key_package_length,
-        null(),
-        0,
-        null(),
-        0,
-        message,
-        null_mut(),
-        null_mut(),
+        MemberProposeAdd,
+        handle = member,
+        first = (key_package, key_package_length),
+        made = message
     )
 }
 
@@ -377,22 +262,15 @@ pub unsafe extern "C" fn mls_member_propose_update(
 ) -> u32
     ghost asked: { Asked }
     requires* memory { sem 𝓛 (asked_at (takes_at member seed seed_length message) asked) }
-    ensures* memory { sem 𝓛 (answered_at MemberProposeUpdate 0 (takes_at member seed seed_length message) asked result) }
+    ensures* memory { sem 𝓛 (answered_at MemberProposeUpdate 0
+        (takes_at member seed seed_length message) asked result) }
 {
-    run(
+    run_call!(
         alloc,
-        Call::MemberProposeUpdate,
-        0,
-        member,
-        seed,
-        seed_length,
-        null(),
-        0,
-        null(),
-        0,
-        message,
-        null_mut(),
-        null_mut(),
+        MemberProposeUpdate,
+        handle = member,
+        first = (seed, seed_length),
+        made = message
     )
 }
 
@@ -406,22 +284,15 @@ pub unsafe extern "C" fn mls_member_propose_remove(
 ) -> u32
     ghost asked: { Asked }
     requires* memory { sem 𝓛 (asked_at (makes_at member message) asked) }
-    ensures* memory { sem 𝓛 (answered_at MemberProposeRemove leaf (makes_at member message) asked result) }
+    ensures* memory { sem 𝓛 (answered_at MemberProposeRemove leaf
+        (makes_at member message) asked result) }
 {
-    run(
+    run_call!(
         alloc,
-        Call::MemberProposeRemove,
-        leaf,
-        member,
-        null(),
-        0,
-        null(),
-        0,
-        null(),
-        0,
-        message,
-        null_mut(),
-        null_mut(),
+        MemberProposeRemove,
+        number = leaf,
+        handle = member,
+        made = message
     )
 }
 
@@ -435,23 +306,17 @@ pub unsafe extern "C" fn mls_member_propose_extensions(
     message: *mut *mut Handle,
 ) -> u32
     ghost asked: { Asked }
-    requires* memory { sem 𝓛 (asked_at (takes_at member extensions extensions_length message) asked) }
-    ensures* memory { sem 𝓛 (answered_at MemberProposeExtensions 0 (takes_at member extensions extensions_length message) asked result) }
+    requires* memory { sem 𝓛 (asked_at
+        (takes_at member extensions extensions_length message) asked) }
+    ensures* memory { sem 𝓛 (answered_at MemberProposeExtensions 0
+        (takes_at member extensions extensions_length message) asked result) }
 {
-    run(
+    run_call!(
         alloc,
-        Call::MemberProposeExtensions,
-        0,
-        member,
-        extensions,
-        extensions_length,
-        null(),
-        0,
-        null(),
-        0,
-        message,
-        null_mut(),
-        null_mut(),
+        MemberProposeExtensions,
+        handle = member,
+        first = (extensions, extensions_length),
+        made = message
     )
 }
 
@@ -469,22 +334,17 @@ pub unsafe extern "C" fn mls_member_commit_kept(
 ) -> u32
     ghost asked: { Asked }
     requires* memory { sem 𝓛 (asked_at (commits_at member seed seed_length commit welcome) asked) }
-    ensures* memory { sem 𝓛 (answered_at MemberCommitKept path (commits_at member seed seed_length commit welcome) asked result) }
+    ensures* memory { sem 𝓛 (answered_at MemberCommitKept path
+        (commits_at member seed seed_length commit welcome) asked result) }
 {
-    run(
+    run_call!(
         alloc,
-        Call::MemberCommitKept,
-        path,
-        member,
-        seed,
-        seed_length,
-        null(),
-        0,
-        null(),
-        0,
-        commit,
-        welcome,
-        null_mut(),
+        MemberCommitKept,
+        number = path,
+        handle = member,
+        first = (seed, seed_length),
+        made = commit,
+        other = welcome
     )
 }
 
@@ -503,23 +363,20 @@ pub unsafe extern "C" fn mls_member_commit(
     welcome: *mut *mut Handle,
 ) -> u32
     ghost asked: { Asked }
-    requires* memory { sem 𝓛 (asked_at (lists_at member proposals proposals_length seed seed_length commit welcome) asked) }
-    ensures* memory { sem 𝓛 (answered_at MemberCommit path (lists_at member proposals proposals_length seed seed_length commit welcome) asked result) }
+    requires* memory { sem 𝓛 (asked_at
+        (lists_at member proposals proposals_length seed seed_length commit welcome) asked) }
+    ensures* memory { sem 𝓛 (answered_at MemberCommit path
+        (lists_at member proposals proposals_length seed seed_length commit welcome) asked result) }
 {
-    run(
+    run_call!(
         alloc,
-        Call::MemberCommit,
-        path,
-        member,
-        proposals,
-        proposals_length,
-        seed,
-        seed_length,
-        null(),
-        0,
-        commit,
-        welcome,
-        null_mut(),
+        MemberCommit,
+        number = path,
+        handle = member,
+        first = (proposals, proposals_length),
+        second = (seed, seed_length),
+        made = commit,
+        other = welcome
     )
 }
 
@@ -534,19 +391,5 @@ pub unsafe extern "C" fn mls_member_drop_pending(
     requires* memory { sem 𝓛 (asked_at (tells_at member had) asked) }
     ensures* memory { sem 𝓛 (answered_at MemberDropPending 0 (tells_at member had) asked result) }
 {
-    run(
-        alloc,
-        Call::MemberDropPending,
-        0,
-        member,
-        null(),
-        0,
-        null(),
-        0,
-        null(),
-        0,
-        null_mut(),
-        null_mut(),
-        had,
-    )
+    run_call!(alloc, MemberDropPending, handle = member, value = had)
 }

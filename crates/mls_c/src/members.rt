@@ -2,7 +2,7 @@
 
 ghost use Rattle.std.specs.Prelude.{◌≡◌};
 ghost use Rattle.mls_wire.specs.Checks.{Answers, AnswersOutright};
-ghost use Rattle.mls_c.specs.Calls.{Changes, Does, a_package, added, effect_number, member_process, member_propose_add, member_propose_update, on_member, package_in, processed, updated, removed, member_propose_remove, dropped, member_drop_pending, extended, some_extensions, member_propose_extensions};
+ghost use Rattle.mls_c.specs.Calls.{Changes, Does, a_package, propose_package, effect_number, member_process, member_propose_add, member_propose_update, on_member, package_in, follow_message, propose_key, propose_removal, member_propose_remove, forget_pending, member_drop_pending, propose_extension_list, some_extensions, member_propose_extensions};
 ghost use Rattle.mls_model.specs.Messages.{decode_message};
 ghost use Rattle.mls_c.specs.Given.{text};
 ghost use Rattle.mls_c.specs.Shown.{fruits, shown};
@@ -13,7 +13,7 @@ use crate::error::MisuseError;
 use crate::given::{Given, OUT_OF_MEMORY};
 use crate::held::Held;
 use crate::make::{fill_bytes, number, room};
-use crate::taken::{given, leaf_of, seed_of, take_member};
+use crate::taken::{bytes_in, leaf_of, seed_of, take_member};
 use mls::{Effect, GroupExtensions, KeyPackage, Member, MlsMessage, ShortKeyPackage, Suite0001};
 use mls_leaf::Codec;
 use std::alloc::Global;
@@ -31,11 +31,11 @@ fn effect_number(effect: Effect) -> u64
 }
 
 /// What a message does to a member.
-#[tactic(auto, unfolding(crate::specs::Calls::processed))]
-fn processed(member: &mut Member<Suite0001>, message: &Given) -> Result<Fruit, u32>
-    ensures { Changes (processed (text message.now) member.old) member.old member.new result }
+#[tactic(auto, unfolding(crate::specs::Calls::follow_message))]
+fn follow_message(member: &mut Member<Suite0001>, message: &Given) -> Result<Fruit, u32>
+    ensures { Changes (follow_message (text message.now) member.old) member.old member.new result }
 {
-    let message = given(message)?;
+    let message = bytes_in(message)?;
     match member.process(message) {
         Ok(effect) => Ok(number(effect_number(effect))),
         Err(error) => Err(error.number() as u32),
@@ -50,16 +50,10 @@ pub(crate) fn member_process(held: Held, message: &Given) -> Done
 {
     match take_member(held) {
         Ok(mut member) => {
-            let outcome = processed(&mut member, message);
-            Done {
-                held: Held::Member(member),
-                outcome,
-            }
+            let outcome = follow_message(&mut member, message);
+            Done::of_member(member, outcome)
         }
-        Err((held, number)) => Done {
-            held,
-            outcome: Err(number),
-        },
+        Err((held, number)) => Done::of_refusal(held, number),
     }
 }
 
@@ -70,16 +64,16 @@ fn package_in(message: MlsMessage) -> Result<KeyPackage, u32>
 {
     match message {
         MlsMessage::KeyPackage(key_package) => Ok(key_package),
-        MlsMessage::PublicMessage(_) => Err(MisuseError::NotKeyPackage.number()),
-        MlsMessage::Welcome(_) => Err(MisuseError::NotKeyPackage.number()),
-        MlsMessage::GroupInfo(_) => Err(MisuseError::NotKeyPackage.number()),
+        MlsMessage::PublicMessage(_) | MlsMessage::Welcome(_) | MlsMessage::GroupInfo(_) => {
+            Err(MisuseError::NotKeyPackage.number())
+        }
     }
 }
 
 /// A proposal of a new key for a member's leaf.
-#[tactic(auto, unfolding(crate::specs::Calls::updated))]
-fn updated(alloc: Global, member: &mut Member<Suite0001>, seed: &Given) -> Result<Fruit, u32>
-    ensures { Changes (updated (text seed.now) member.old) member.old member.new result }
+#[tactic(auto, unfolding(crate::specs::Calls::propose_key))]
+fn propose_key(alloc: Global, member: &mut Member<Suite0001>, seed: &Given) -> Result<Fruit, u32>
+    ensures { Changes (propose_key (text seed.now) member.old) member.old member.new result }
 {
     let seed = seed_of(seed)?;
     let room = room(alloc)?;
@@ -97,16 +91,10 @@ pub(crate) fn member_propose_update(alloc: Global, held: Held, seed: &Given) -> 
 {
     match take_member(held) {
         Ok(mut member) => {
-            let outcome = updated(alloc, &mut member, seed);
-            Done {
-                held: Held::Member(member),
-                outcome,
-            }
+            let outcome = propose_key(alloc, &mut member, seed);
+            Done::of_member(member, outcome)
         }
-        Err((held, number)) => Done {
-            held,
-            outcome: Err(number),
-        },
+        Err((held, number)) => Done::of_refusal(held, number),
     }
 }
 
@@ -126,7 +114,7 @@ fn message_of(alloc: Global, bytes: &[u8]) -> Result<MlsMessage, u32>
 fn package_of(alloc: Global, bytes: &Given) -> Result<ShortKeyPackage, u32>
     ensures { Answers (λ k. k) (λ n. n) (a_package (text bytes.now)) result }
 {
-    let bytes = given(bytes)?;
+    let bytes = bytes_in(bytes)?;
     let message = message_of(alloc, bytes)?;
     let key_package = package_in(message)?;
     match ShortKeyPackage::new(alloc, key_package) {
@@ -136,9 +124,14 @@ fn package_of(alloc: Global, bytes: &Given) -> Result<ShortKeyPackage, u32>
 }
 
 /// A proposal to add a KeyPackage.
-#[tactic(auto, unfolding(crate::specs::Calls::added))]
-fn added(alloc: Global, member: &mut Member<Suite0001>, key_package: &Given) -> Result<Fruit, u32>
-    ensures { Changes (added (text key_package.now) member.old) member.old member.new result }
+#[tactic(auto, unfolding(crate::specs::Calls::propose_package))]
+fn propose_package(
+    alloc: Global,
+    member: &mut Member<Suite0001>,
+    key_package: &Given,
+) -> Result<Fruit, u32>
+    ensures { Changes (propose_package (text key_package.now) member.old)
+        member.old member.new result }
 {
     let key_package = package_of(alloc, key_package)?;
     let room = room(alloc)?;
@@ -151,28 +144,23 @@ fn added(alloc: Global, member: &mut Member<Suite0001>, key_package: &Given) -> 
 /// A proposal to add a KeyPackage, of a handle's member.
 #[tactic(auto, unfolding(crate::specs::Calls::member_propose_add, crate::specs::Calls::on_member, crate::specs::Calls::a_member))]
 pub(crate) fn member_propose_add(alloc: Global, held: Held, key_package: &Given) -> Done
-    ensures does { Does (member_propose_add (shown held) (text key_package.now)) (shown held) result }
+    ensures does { Does (member_propose_add (shown held) (text key_package.now))
+        (shown held) result }
     ensures stays { held ≡ Nothing → result.held ≡ Nothing }
 {
     match take_member(held) {
         Ok(mut member) => {
-            let outcome = added(alloc, &mut member, key_package);
-            Done {
-                held: Held::Member(member),
-                outcome,
-            }
+            let outcome = propose_package(alloc, &mut member, key_package);
+            Done::of_member(member, outcome)
         }
-        Err((held, number)) => Done {
-            held,
-            outcome: Err(number),
-        },
+        Err((held, number)) => Done::of_refusal(held, number),
     }
 }
 
 /// A proposal to remove a leaf.
-#[tactic(auto, unfolding(crate::specs::Calls::removed))]
-fn removed(alloc: Global, member: &mut Member<Suite0001>, leaf: u64) -> Result<Fruit, u32>
-    ensures { Changes (removed leaf member.old) member.old member.new result }
+#[tactic(auto, unfolding(crate::specs::Calls::propose_removal))]
+fn propose_removal(alloc: Global, member: &mut Member<Suite0001>, leaf: u64) -> Result<Fruit, u32>
+    ensures { Changes (propose_removal leaf member.old) member.old member.new result }
 {
     let leaf = leaf_of(leaf)?;
     let room = room(alloc)?;
@@ -190,21 +178,15 @@ pub(crate) fn member_propose_remove(alloc: Global, held: Held, leaf: u64) -> Don
 {
     match take_member(held) {
         Ok(mut member) => {
-            let outcome = removed(alloc, &mut member, leaf);
-            Done {
-                held: Held::Member(member),
-                outcome,
-            }
+            let outcome = propose_removal(alloc, &mut member, leaf);
+            Done::of_member(member, outcome)
         }
-        Err((held, number)) => Done {
-            held,
-            outcome: Err(number),
-        },
+        Err((held, number)) => Done::of_refusal(held, number),
     }
 }
 
 /// The pending commit of a handle's member is forgotten.
-#[tactic(auto, unfolding(crate::specs::Calls::member_drop_pending, crate::specs::Calls::on_member, crate::specs::Calls::a_member, crate::specs::Calls::dropped))]
+#[tactic(auto, unfolding(crate::specs::Calls::member_drop_pending, crate::specs::Calls::on_member, crate::specs::Calls::a_member, crate::specs::Calls::forget_pending))]
 pub(crate) fn member_drop_pending(held: Held) -> Done
     ensures does { Does (member_drop_pending (shown held)) (shown held) result }
     ensures stays { held ≡ Nothing → result.held ≡ Nothing }
@@ -212,15 +194,9 @@ pub(crate) fn member_drop_pending(held: Held) -> Done
     match take_member(held) {
         Ok(mut member) => {
             let had = if member.drop_pending() { 1 } else { 0 };
-            Done {
-                held: Held::Member(member),
-                outcome: Ok(number(had)),
-            }
+            Done::of_member(member, Ok(number(had)))
         }
-        Err((held, number)) => Done {
-            held,
-            outcome: Err(number),
-        },
+        Err((held, number)) => Done::of_refusal(held, number),
     }
 }
 
@@ -229,7 +205,7 @@ pub(crate) fn member_drop_pending(held: Held) -> Done
 fn extensions_of(alloc: Global, extensions: &Given) -> Result<GroupExtensions, u32>
     ensures { Answers (λ xs. xs) (λ n. n) (some_extensions (text extensions.now)) result }
 {
-    let bytes = given(extensions)?;
+    let bytes = bytes_in(extensions)?;
     match GroupExtensions::decode(alloc, bytes) {
         Ok(extensions) => Ok(extensions),
         Err(error) => Err(error.number() as u32),
@@ -237,9 +213,14 @@ fn extensions_of(alloc: Global, extensions: &Given) -> Result<GroupExtensions, u
 }
 
 /// A proposal that the group carry extensions.
-#[tactic(auto, unfolding(crate::specs::Calls::extended))]
-fn extended(alloc: Global, member: &mut Member<Suite0001>, extensions: &Given) -> Result<Fruit, u32>
-    ensures { Changes (extended (text extensions.now) member.old) member.old member.new result }
+#[tactic(auto, unfolding(crate::specs::Calls::propose_extension_list))]
+fn propose_extension_list(
+    alloc: Global,
+    member: &mut Member<Suite0001>,
+    extensions: &Given,
+) -> Result<Fruit, u32>
+    ensures { Changes (propose_extension_list (text extensions.now) member.old)
+        member.old member.new result }
 {
     let room = room(alloc)?;
     let extensions = extensions_of(alloc, extensions)?;
@@ -252,20 +233,15 @@ fn extended(alloc: Global, member: &mut Member<Suite0001>, extensions: &Given) -
 /// A proposal that the group carry extensions, of a handle's member.
 #[tactic(auto, unfolding(crate::specs::Calls::member_propose_extensions, crate::specs::Calls::on_member, crate::specs::Calls::a_member))]
 pub(crate) fn member_propose_extensions(alloc: Global, held: Held, extensions: &Given) -> Done
-    ensures does { Does (member_propose_extensions (shown held) (text extensions.now)) (shown held) result }
+    ensures does { Does (member_propose_extensions (shown held) (text extensions.now))
+        (shown held) result }
     ensures stays { held ≡ Nothing → result.held ≡ Nothing }
 {
     match take_member(held) {
         Ok(mut member) => {
-            let outcome = extended(alloc, &mut member, extensions);
-            Done {
-                held: Held::Member(member),
-                outcome,
-            }
+            let outcome = propose_extension_list(alloc, &mut member, extensions);
+            Done::of_member(member, outcome)
         }
-        Err((held, number)) => Done {
-            held,
-            outcome: Err(number),
-        },
+        Err((held, number)) => Done::of_refusal(held, number),
     }
 }

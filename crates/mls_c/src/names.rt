@@ -9,7 +9,7 @@ ghost use Rattle.mls_c.specs.declared.held.Held.TheVariants.{Nothing};
 
 use crate::done::Done;
 use crate::held::Held;
-use crate::make::copied_fruit;
+use crate::make::fill_copy;
 use mls_wire::refusal_name;
 use std::alloc::Global;
 
@@ -61,6 +61,6 @@ pub(crate) fn refusal_name_of(alloc: Global, held: Held, number: u64) -> Done
     ensures does { Does (refusal_name_of (shown held) number) (shown held) result }
     ensures stays { held ≡ Nothing → result.held ≡ Nothing }
 {
-    let outcome = copied_fruit(alloc, library_name(number).as_bytes());
+    let outcome = fill_copy(alloc, library_name(number).as_bytes());
     Done { held, outcome }
 }

@@ -8,7 +8,7 @@ ghost use Rattle.mls_c.specs.Given.{IsGiven};
 ghost use denote.RawPtr.{InBlock};
 ghost use Rattle.mls_c.specs.Faults.{number_of};
 ghost use Rattle.mls_c.specs.declared.error.MisuseError.TheVariants.{NullHandle};
-ghost use Rattle.mls_c.specs.Memory.{freed_number, held_at, bytes_at, room_if, handle_put, number_put, IfNull};
+ghost use Rattle.mls_c.specs.Memory.{free_answer, held_at, bytes_at, room_if, handle_put, number_put, IfNull};
 ghost use Rattle.mls_c.specs.Shown.{boxed};
 ghost use Rattle.mls_c.specs.declared.held.Held.{Held};
 ghost use Rattle.mls_c.specs.declared.held.Held.TheVariants.{Nothing};
@@ -63,10 +63,10 @@ pub(crate) fn null_number() -> u32
 }
 
 /// Frees a handle, and answers 0, or `NullHandle` (130).
-pub(crate) unsafe fn freed(alloc: Global, at: *mut Handle) -> u32
+pub(crate) unsafe fn free_handle(alloc: Global, at: *mut Handle) -> u32
     ghost held: { Held }
     requires* memory { sem 𝓛 (held_at at held) }
-    ensures { result ≡ freed_number at }
+    ensures { result ≡ free_answer at }
 {
     if at.is_null() {
         return null_number();
@@ -78,7 +78,7 @@ pub(crate) unsafe fn freed(alloc: Global, at: *mut Handle) -> u32
 }
 
 /// Puts a value into a handle, and answers the one that was there. Null holds nothing.
-pub(crate) unsafe fn swapped(at: *mut Handle, held: Held) -> Held
+pub(crate) unsafe fn swap_held(at: *mut Handle, held: Held) -> Held
     ghost old: { Held }
     requires null { IfNull at (held ≡ Nothing) }
     requires* memory { sem 𝓛 (held_at at old) }
@@ -96,7 +96,7 @@ pub(crate) unsafe fn swapped(at: *mut Handle, held: Held) -> Held
 }
 
 /// A copy of the bytes at a pointer.
-pub(crate) unsafe fn copied(alloc: Global, at: *const u8, length: usize) -> Given
+pub(crate) unsafe fn copy_at(alloc: Global, at: *const u8, length: usize) -> Given
     ghost g: { Share × List ℕ }
     requires* memory { sem 𝓛 (bytes_at g.0 at length g.1) }
     ensures value { IsGiven at length g.1 result.bytes }

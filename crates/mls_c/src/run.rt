@@ -2,13 +2,14 @@
 
 ghost use Rattle.std.specs.Prelude.{◌≡◌};
 ghost use types.Logic.{sem};
-ghost use Rattle.mls_c.specs.Memory.{Asked, Passed, asked_at, answered_at};
+ghost use Rattle.mls_c.specs.Memory.{Asked, asked_at, answered_at};
+ghost use Rattle.mls_c.specs.Passing.{runs_at};
 
-use crate::answered::answered;
 use crate::call::Call;
-use crate::done::{Done, Parts, parted};
+use crate::dispatch::do_call;
+use crate::done::{Done, Parts, parts_of};
 use crate::held::Handle;
-use crate::pointer::{copied, let_go, nothing, put_handle, put_number, swapped};
+use crate::pointer::{copy_at, let_go, nothing, put_handle, put_number, swap_held};
 use std::alloc::Global;
 
 /// Does a call with a number, with what a handle holds, and with the bytes at three pointers, and writes what it makes.
@@ -28,14 +29,18 @@ pub(crate) unsafe fn run(
     value_out: *mut u64,
 ) -> u32
     ghost asked: { Asked }
-    requires* memory { sem 𝓛 (asked_at (record { handle = handle; first = first; first_length = first_length; second = second; second_length = second_length; third = third; third_length = third_length; made = made_out; other = other_out; value = value_out }) asked) }
-    ensures* memory { sem 𝓛 (answered_at call number (record { handle = handle; first = first; first_length = first_length; second = second; second_length = second_length; third = third; third_length = third_length; made = made_out; other = other_out; value = value_out }) asked result) }
+    requires* memory { sem 𝓛 (asked_at
+        (runs_at handle first first_length second second_length third third_length
+        made_out other_out value_out) asked) }
+    ensures* memory { sem 𝓛 (answered_at call number
+        (runs_at handle first first_length second second_length third third_length
+        made_out other_out value_out) asked result) }
 {
-    let first_given = copied(alloc, first, first_length);
-    let second_given = copied(alloc, second, second_length);
-    let third_given = copied(alloc, third, third_length);
-    let held = swapped(handle, nothing());
-    let Done { held, outcome } = answered(
+    let first_given = copy_at(alloc, first, first_length);
+    let second_given = copy_at(alloc, second, second_length);
+    let third_given = copy_at(alloc, third, third_length);
+    let held = swap_held(handle, nothing());
+    let Done { held, outcome } = do_call(
         alloc,
         call,
         number,
@@ -44,15 +49,50 @@ pub(crate) unsafe fn run(
         second_given,
         third_given,
     );
-    let_go(swapped(handle, held));
+    let_go(swap_held(handle, held));
     let Parts {
         made,
         other,
         value,
         answer,
-    } = parted(outcome);
+    } = parts_of(outcome);
     put_handle(alloc, made_out, made);
     put_handle(alloc, other_out, other);
     put_number(value_out, value);
     answer
 }
+
+/// A call with what C passed. A pointer that isn't named is null, and a number 0.
+macro_rules! run_call {
+    (@or $default:expr;) => { $default };
+    (@or $default:expr; $named:expr) => { $named };
+    (
+        $alloc:ident, $call:ident
+        $(, number = $number:ident)?
+        $(, handle = $handle:ident)?
+        $(, first = ($first:ident, $first_length:ident))?
+        $(, second = ($second:ident, $second_length:ident))?
+        $(, third = ($third:ident, $third_length:ident))?
+        $(, made = $made:ident)?
+        $(, other = $other:ident)?
+        $(, value = $value:ident)?
+    ) => {
+        $crate::run::run(
+            $alloc,
+            $crate::call::Call::$call,
+            run_call!(@or 0; $($number)?),
+            run_call!(@or std::ptr::null_mut(); $($handle)?),
+            run_call!(@or std::ptr::null(); $($first)?),
+            run_call!(@or 0; $($first_length)?),
+            run_call!(@or std::ptr::null(); $($second)?),
+            run_call!(@or 0; $($second_length)?),
+            run_call!(@or std::ptr::null(); $($third)?),
+            run_call!(@or 0; $($third_length)?),
+            run_call!(@or std::ptr::null_mut(); $($made)?),
+            run_call!(@or std::ptr::null_mut(); $($other)?),
+            run_call!(@or std::ptr::null_mut(); $($value)?),
+        )
+    };
+}
+
+pub(crate) use run_call;

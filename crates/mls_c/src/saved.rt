@@ -1,7 +1,7 @@
 //! Calls that save and load.
 
 ghost use Rattle.std.specs.Prelude.{◌≡◌};
-ghost use Rattle.mls_c.specs.Calls.{Does, Makes, SavesHeld, SavesIfMember, SavesMember, a_member, candidate_load, candidate_save, made_loaded_candidate, made_loaded_member, made_saved_candidate, member_load};
+ghost use Rattle.mls_c.specs.Calls.{Does, Makes, SavesHeld, SavesIfMember, SavesMember, a_member, candidate_load, candidate_save, make_loaded_candidate, make_loaded_member, make_saved_candidate, member_load};
 ghost use Rattle.mls_c.specs.Given.{text};
 ghost use Rattle.mls_c.specs.Shown.{shown};
 ghost use Rattle.mls_c.specs.declared.held.Held.TheVariants.{Nothing};
@@ -10,14 +10,14 @@ use crate::done::{Done, Fruit};
 use crate::given::Given;
 use crate::held::Held;
 use crate::make::{fill, fill_bytes, room};
-use crate::taken::{candidate_of, given, member_of};
+use crate::taken::{bytes_in, candidate_of, member_of};
 use mls::{Candidate, Member, Suite0001};
 use std::alloc::Global;
 
 /// The bytes that a candidate is saved as, in a handle.
-#[tactic(auto, unfolding(crate::specs::Calls::made_saved_candidate))]
-fn made_saved_candidate(alloc: Global, held: &Held) -> Result<Fruit, u32>
-    ensures { Makes (made_saved_candidate (shown held.now)) result }
+#[tactic(auto, unfolding(crate::specs::Calls::make_saved_candidate))]
+fn make_saved_candidate(alloc: Global, held: &Held) -> Result<Fruit, u32>
+    ensures { Makes (make_saved_candidate (shown held.now)) result }
 {
     let candidate = candidate_of(held)?;
     let room = room(alloc)?;
@@ -33,16 +33,16 @@ pub(crate) fn candidate_save(alloc: Global, held: Held) -> Done
     ensures does { Does (candidate_save (shown held)) (shown held) result }
     ensures stays { held ≡ Nothing → result.held ≡ Nothing }
 {
-    let outcome = made_saved_candidate(alloc, &held);
+    let outcome = make_saved_candidate(alloc, &held);
     Done { held, outcome }
 }
 
 /// The candidate that was saved so, in a handle.
-#[tactic(auto, unfolding(crate::specs::Calls::made_loaded_candidate))]
-fn made_loaded_candidate(alloc: Global, saved: &Given) -> Result<Fruit, u32>
-    ensures { Makes (made_loaded_candidate (text saved.now)) result }
+#[tactic(auto, unfolding(crate::specs::Calls::make_loaded_candidate))]
+fn make_loaded_candidate(alloc: Global, saved: &Given) -> Result<Fruit, u32>
+    ensures { Makes (make_loaded_candidate (text saved.now)) result }
 {
-    let saved = given(saved)?;
+    let saved = bytes_in(saved)?;
     let room = room(alloc)?;
     match Candidate::<Suite0001>::load(alloc, saved) {
         Ok(candidate) => Ok(fill(room, Held::Candidate(candidate))),
@@ -56,13 +56,13 @@ pub(crate) fn candidate_load(alloc: Global, held: Held, saved: &Given) -> Done
     ensures does { Does (candidate_load (shown held) (text saved.now)) (shown held) result }
     ensures stays { held ≡ Nothing → result.held ≡ Nothing }
 {
-    let outcome = made_loaded_candidate(alloc, saved);
+    let outcome = make_loaded_candidate(alloc, saved);
     Done { held, outcome }
 }
 
 /// The bytes that a member is saved as, in a handle.
 #[tactic(auto, using(crate::proofs::Decoded::unsaved))]
-fn saved_member(alloc: Global, member: &Member<Suite0001>) -> Result<Fruit, u32>
+fn save_member(alloc: Global, member: &Member<Suite0001>) -> Result<Fruit, u32>
     ensures { SavesMember member.now result }
 {
     let room = room(alloc)?;
@@ -73,11 +73,11 @@ fn saved_member(alloc: Global, member: &Member<Suite0001>) -> Result<Fruit, u32>
 }
 
 /// The bytes that the member of a handle is saved as, in a handle.
-fn made_saved_member(alloc: Global, held: &Held) -> Result<Fruit, u32>
+fn make_saved_member(alloc: Global, held: &Held) -> Result<Fruit, u32>
     ensures { SavesIfMember (a_member (shown held.now)) result }
 {
     match member_of(held) {
-        Ok(member) => saved_member(alloc, member),
+        Ok(member) => save_member(alloc, member),
         Err(number) => Err(number),
     }
 }
@@ -87,16 +87,16 @@ pub(crate) fn member_save(alloc: Global, held: Held) -> Done
     ensures does { SavesHeld (shown held) result }
     ensures stays { held ≡ Nothing → result.held ≡ Nothing }
 {
-    let outcome = made_saved_member(alloc, &held);
+    let outcome = make_saved_member(alloc, &held);
     Done { held, outcome }
 }
 
 /// The member that was saved so, in a handle.
-#[tactic(auto, unfolding(crate::specs::Calls::made_loaded_member))]
-fn made_loaded_member(alloc: Global, saved: &Given) -> Result<Fruit, u32>
-    ensures { Makes (made_loaded_member (text saved.now)) result }
+#[tactic(auto, unfolding(crate::specs::Calls::make_loaded_member))]
+fn make_loaded_member(alloc: Global, saved: &Given) -> Result<Fruit, u32>
+    ensures { Makes (make_loaded_member (text saved.now)) result }
 {
-    let saved = given(saved)?;
+    let saved = bytes_in(saved)?;
     let room = room(alloc)?;
     match Member::<Suite0001>::load(alloc, saved) {
         Ok(member) => Ok(fill(room, Held::Member(member))),
@@ -110,6 +110,6 @@ pub(crate) fn member_load(alloc: Global, held: Held, saved: &Given) -> Done
     ensures does { Does (member_load (shown held) (text saved.now)) (shown held) result }
     ensures stays { held ≡ Nothing → result.held ≡ Nothing }
 {
-    let outcome = made_loaded_member(alloc, saved);
+    let outcome = make_loaded_member(alloc, saved);
     Done { held, outcome }
 }

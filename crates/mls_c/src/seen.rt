@@ -3,7 +3,7 @@
 ghost use Rattle.std.specs.Prelude.{◌≡◌, ◌≤◌, MatchResult, length};
 ghost use Rattle.mls_kdf.specs.Kdf.{max_output};
 ghost use Rattle.mls_schedule.specs.Epoch.{exported};
-ghost use Rattle.mls_c.specs.Calls.{Does, IsTold, Makes, made_export, made_found, member_at, member_export, member_leaf_count};
+ghost use Rattle.mls_c.specs.Calls.{Does, TellsMember, Makes, make_export, make_identity, member_at, member_export, member_leaf_count};
 ghost use Rattle.mls_c.specs.Given.{text};
 ghost use Rattle.mls_c.specs.Shown.{shown};
 ghost use Rattle.mls_c.specs.declared.held.Held.TheVariants.{Nothing};
@@ -12,7 +12,7 @@ use crate::done::{Done, Fruit};
 use crate::given::{Given, OUT_OF_MEMORY, copy_of};
 use crate::held::Held;
 use crate::make::{fill_bytes, number, room, two};
-use crate::taken::{NO_SUCH_LEAF, given, label_of, leaf_of, member_of, output_of};
+use crate::taken::{NO_SUCH_LEAF, bytes_in, label_of, leaf_of, member_of, output_of};
 use mls::{Bytes, Epoch, GroupMember};
 use std::alloc::Global;
 
@@ -30,8 +30,8 @@ pub(crate) fn member_leaf_count(held: Held) -> Done
 }
 
 /// The identity and the signature key of a member of a group, in handles, or `OutOfMemory` (1).
-fn told(alloc: Global, found: GroupMember<'_>) -> Result<Fruit, u32>
-    ensures { IsTold found.entry.identity found.entry.signature_key result }
+fn tell_member(alloc: Global, found: GroupMember<'_>) -> Result<Fruit, u32>
+    ensures { TellsMember found.entry.identity found.entry.signature_key result }
 {
     let identity_room = room(alloc)?;
     let key_room = room(alloc)?;
@@ -41,14 +41,14 @@ fn told(alloc: Global, found: GroupMember<'_>) -> Result<Fruit, u32>
 }
 
 /// The identity and the signature key of the member at a leaf, in handles, or `NoSuchLeaf` (22).
-#[tactic(auto, unfolding(crate::specs::Calls::made_found))]
-fn made_found(alloc: Global, held: &Held, leaf: u64) -> Result<Fruit, u32>
-    ensures { Makes (made_found (shown held.now) leaf) result }
+#[tactic(auto, unfolding(crate::specs::Calls::make_identity))]
+fn make_identity(alloc: Global, held: &Held, leaf: u64) -> Result<Fruit, u32>
+    ensures { Makes (make_identity (shown held.now) leaf) result }
 {
     let member = member_of(held)?;
     let leaf = leaf_of(leaf)?;
     match member.member_at(leaf) {
-        Some(found) => told(alloc, found),
+        Some(found) => tell_member(alloc, found),
         None => Err(NO_SUCH_LEAF),
     }
 }
@@ -59,12 +59,12 @@ pub(crate) fn member_at(alloc: Global, held: Held, leaf: u64) -> Done
     ensures does { Does (member_at (shown held) leaf) (shown held) result }
     ensures stays { held ≡ Nothing → result.held ≡ Nothing }
 {
-    let outcome = made_found(alloc, &held, leaf);
+    let outcome = make_identity(alloc, &held, leaf);
     Done { held, outcome }
 }
 
 /// A secret of so many bytes, exported under a label and a context, or `OutOfMemory` (1).
-fn exported(
+fn export_secret(
     alloc: Global,
     epoch: &Epoch,
     label: &str,
@@ -73,7 +73,8 @@ fn exported(
 ) -> Result<Vec<u8>, u32>
     requires label { length label.now ≤ 200 }
     requires output { count ≤ max_output }
-    ensures { MatchResult result (λ v. v.items ≡ exported epoch.now label.now context.now count) (λ n. n ≡ 1) }
+    ensures { MatchResult result
+        (λ v. v.items ≡ exported epoch.now label.now context.now count) (λ n. n ≡ 1) }
 {
     let mut secret = match Vec::from_elem(alloc, 0, count) {
         Ok(secret) => secret,
@@ -86,22 +87,23 @@ fn exported(
 }
 
 /// An exported secret, in a handle.
-#[tactic(auto, unfolding(crate::specs::Calls::made_export))]
-fn made_export(
+#[tactic(auto, unfolding(crate::specs::Calls::make_export))]
+fn make_export(
     alloc: Global,
     held: &Held,
     label: &Given,
     context: &Given,
     count: u64,
 ) -> Result<Fruit, u32>
-    ensures { Makes (made_export (shown held.now) (text label.now) (text context.now) count) result }
+    ensures { Makes (make_export (shown held.now) (text label.now) (text context.now) count)
+        result }
 {
     let member = member_of(held)?;
     let label = label_of(label)?;
-    let context = given(context)?;
+    let context = bytes_in(context)?;
     let count = output_of(count)?;
     let room = room(alloc)?;
-    let secret = exported(alloc, member.secrets(), label, context, count)?;
+    let secret = export_secret(alloc, member.secrets(), label, context, count)?;
     Ok(fill_bytes(room, secret))
 }
 
@@ -114,9 +116,10 @@ pub(crate) fn member_export(
     context: &Given,
     count: u64,
 ) -> Done
-    ensures does { Does (member_export (shown held) (text label.now) (text context.now) count) (shown held) result }
+    ensures does { Does (member_export (shown held) (text label.now) (text context.now) count)
+        (shown held) result }
     ensures stays { held ≡ Nothing → result.held ≡ Nothing }
 {
-    let outcome = made_export(alloc, &held, label, context, count);
+    let outcome = make_export(alloc, &held, label, context, count);
     Done { held, outcome }
 }

@@ -22,9 +22,9 @@ pub(crate) fn candidate_of(held: &Held) -> Result<&Candidate<Suite0001>, u32>
     match held {
         Held::Candidate(candidate) => Ok(candidate),
         Held::Nothing => Err(MisuseError::NullHandle.number()),
-        Held::Bytes(_) => Err(MisuseError::OtherHandle.number()),
-        Held::Member(_) => Err(MisuseError::OtherHandle.number()),
-        Held::Conversation(_) => Err(MisuseError::OtherHandle.number()),
+        Held::Bytes(_) | Held::Member(_) | Held::Conversation(_) => {
+            Err(MisuseError::OtherHandle.number())
+        }
     }
 }
 
@@ -36,9 +36,9 @@ pub(crate) fn member_of(held: &Held) -> Result<&Member<Suite0001>, u32>
     match held {
         Held::Member(member) => Ok(member),
         Held::Nothing => Err(MisuseError::NullHandle.number()),
-        Held::Bytes(_) => Err(MisuseError::OtherHandle.number()),
-        Held::Candidate(_) => Err(MisuseError::OtherHandle.number()),
-        Held::Conversation(_) => Err(MisuseError::OtherHandle.number()),
+        Held::Bytes(_) | Held::Candidate(_) | Held::Conversation(_) => {
+            Err(MisuseError::OtherHandle.number())
+        }
     }
 }
 
@@ -50,17 +50,9 @@ pub(crate) fn take_member(held: Held) -> Result<Member<Suite0001>, (Held, u32)>
     match held {
         Held::Member(member) => Ok(member),
         Held::Nothing => Err((held, MisuseError::NullHandle.number())),
-        Held::Bytes(bytes) => Err((Held::Bytes(bytes), MisuseError::OtherHandle.number())),
-        Held::Candidate(candidate) => {
-            Err((
-                Held::Candidate(candidate),
-                MisuseError::OtherHandle.number(),
-            ))
+        Held::Bytes(_) | Held::Candidate(_) | Held::Conversation(_) => {
+            Err((held, MisuseError::OtherHandle.number()))
         }
-        Held::Conversation(conversation) => Err((
-            Held::Conversation(conversation),
-            MisuseError::OtherHandle.number(),
-        )),
     }
 }
 
@@ -72,14 +64,14 @@ pub(crate) fn bytes_of(held: &Held) -> Result<&[u8], u32>
     match held {
         Held::Bytes(bytes) => Ok(bytes.as_slice()),
         Held::Nothing => Err(MisuseError::NullHandle.number()),
-        Held::Candidate(_) => Err(MisuseError::OtherHandle.number()),
-        Held::Member(_) => Err(MisuseError::OtherHandle.number()),
-        Held::Conversation(_) => Err(MisuseError::OtherHandle.number()),
+        Held::Candidate(_) | Held::Member(_) | Held::Conversation(_) => {
+            Err(MisuseError::OtherHandle.number())
+        }
     }
 }
 
 /// Bytes that were given.
-pub(crate) fn given(given: &Given) -> Result<&[u8], u32>
+pub(crate) fn bytes_in(given: &Given) -> Result<&[u8], u32>
     ensures { AnswersOutright (λ b. b.now) (λ n. n) (text given.now) result }
 {
     match &given.bytes {
@@ -93,7 +85,7 @@ pub(crate) fn given(given: &Given) -> Result<&[u8], u32>
 pub(crate) fn seed_of(seed: &Given) -> Result<Seed, u32>
     ensures { AnswersOutright (λ s. s) (λ n. n) (a_seed (text seed.now)) result }
 {
-    let bytes = given(seed)?;
+    let bytes = bytes_in(seed)?;
     match <[u8; 32]>::try_from(bytes) {
         Ok(seed) => Ok(seed),
         Err(_) => Err(MisuseError::SeedLength.number()),
@@ -108,14 +100,9 @@ pub(crate) fn take_conversation(held: Held) -> Result<Conversation<Suite0001>, (
     match held {
         Held::Conversation(conversation) => Ok(conversation),
         Held::Nothing => Err((held, MisuseError::NullHandle.number())),
-        Held::Bytes(bytes) => Err((Held::Bytes(bytes), MisuseError::OtherHandle.number())),
-        Held::Candidate(candidate) => {
-            Err((
-                Held::Candidate(candidate),
-                MisuseError::OtherHandle.number(),
-            ))
+        Held::Bytes(_) | Held::Candidate(_) | Held::Member(_) => {
+            Err((held, MisuseError::OtherHandle.number()))
         }
-        Held::Member(member) => Err((Held::Member(member), MisuseError::OtherHandle.number())),
     }
 }
 
@@ -142,7 +129,7 @@ pub(crate) fn label_of(label: &Given) -> Result<&str, u32>
     ensures label { AnswersOutright (λ s. s.now) (λ n. n) (a_label (text label.now)) result }
     ensures short { IfOk result (λ s. length s.now ≤ 200) }
 {
-    let bytes = given(label)?;
+    let bytes = bytes_in(label)?;
     if bytes.len() > LABEL_LIMIT {
         return Err(MisuseError::NotLabel.number());
     }

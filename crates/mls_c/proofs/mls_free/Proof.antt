@@ -1,4 +1,4 @@
--- `mls_free` passes on to `freed`.
+-- `mls_free` passes on to `free_handle`.
 use Rattle.std.proofs.Common.{◌≡◌, ℕ, List, [], ◌∷◌, ◌++◌, refl, w32}
 use base.Logic.{id⊢}
 use prog.Wp.{WpFn}
@@ -21,8 +21,8 @@ use Rattle.std.proofs.raw_atomic.Walks.{proved, leaves}
 use Rattle.std.specs.contracts.alloc.Global as heap
 use Rattle.std.proofs.alloc.Global.TheLaws as heap_laws
 use Rattle.mls_c.proofs.Rows.{typed, comes}
-use Rattle.mls_c.specs.contracts.pointer.freed as frees
-use Rattle.mls_c.proofs.pointer.freed.Met as frees_thm
+use Rattle.mls_c.specs.contracts.pointer.free_handle as frees
+use Rattle.mls_c.proofs.pointer.free_handle.Met as frees_thm
 use Rattle.mls_c.specs.contracts.mls_free as f
 use Rattle.mls_c.proofs.mls_free.Statement.{statement}
 use Rattle.mls_c.proofs.mls_free.Code as code
@@ -39,6 +39,6 @@ mls_free_spec 𝓤 𝓛 𝓜 𝓡 wired =
     let a = args.0 in let p = args.1.0 in let good = ((heap_laws.the_row_laws.lawful 𝓛).typed a (heap_word a ∷ []) are.0).0 in
     let Frees = triple_of 𝓛 frees.signature (frees.spec 𝓛 𝓜.mem 𝓡.returns) in let z : Frees.Ghost = ((κs, qs, bounds, args, (heap_word a ∷ [], (ptr_val p ∷ [], tt))), x) in
     qed 𝓛 (raw (Frees.pre z) ∷ []) ∵ enter ! 𝓣.C 𝓣.Λ code.function (heap_word a ∷ ptr_val p ∷ []) (W.post z) $ alloc_all ! (λ l. pass_all ! refl (good, (((rawptr_Lawful 𝓛).typed p (ptr_val p ∷ []) refl).0, tt)) $
-    calls_at ! (framed 𝓤 H 𝓜 𝓣) Frees (frees_thm.met 𝓤 𝓛 𝓜 𝓡 (code.calls-mls_c::pointer::freed 𝓡.env wired)) z (and_then ! (get ! refl) (and_then ! (get ! refl) (no_more !))) (λ v.
+    calls_at ! (framed 𝓤 H 𝓜 𝓣) Frees (frees_thm.met 𝓤 𝓛 𝓜 𝓡 (code.calls-mls_c::pointer::free_handle 𝓡.env wired)) z (and_then ! (get ! refl) (and_then ! (get ! refl) (no_more !))) (λ v.
     comes ! tt frees.ended (frees.clauses 𝓛 𝓜.mem 𝓡.returns) z v (λ r ws. typed u32 (uint_Lawful 𝓛 w32) ! r v (λ ok. lands_as ! refl refl ok.0 $ returns ! (look_at ! 0 refl) $ free_all ! refl $
     nothing ! $ nothing ! $ fjoin ! $ nothing ! $ fjoin ! $ nothing ! $ by ! (leaves 𝓛 f.ended stayed c z v r (tt, (tt, tt)) (tt, (tt, tt))))))))

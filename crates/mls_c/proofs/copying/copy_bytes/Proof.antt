@@ -29,19 +29,19 @@ use Rattle.std.proofs.raw_atomic.Walks.{proved, leaves}
 use Rattle.mls_c.specs.Calls.{Copies}
 use Rattle.mls_c.specs.Memory.{IfNull, held_at}
 use Rattle.mls_c.specs.Shown.{shown}
-use Rattle.mls_c.specs.declared.copying.Copied.{Copied as CopiedValue}
+use Rattle.mls_c.specs.declared.copying.CopyOutcome.{CopyOutcome as CopyValue}
 use Rattle.mls_c.specs.declared.held.Held.{Held}
 use Rattle.mls_c.specs.declared.held.Held.TheVariants.{Nothing}
 use Rattle.mls_c.specs.contracts.held.Held as held
 use Rattle.mls_c.proofs.held.Held.TheLaws as held_laws
-use Rattle.mls_c.specs.contracts.copying.Copied as copied
-use Rattle.mls_c.proofs.copying.Copied.TheLaws as copied_laws
+use Rattle.mls_c.specs.contracts.copying.CopyOutcome as copy_outcome
+use Rattle.mls_c.proofs.copying.CopyOutcome.TheLaws as copy_outcome_laws
 use Rattle.mls_c.proofs.Rows.{typed, comes, holds}
-use Rattle.mls_c.proofs.Apart.{copied_apart, if_null, stays_null}
+use Rattle.mls_c.proofs.Apart.{copy_apart, if_null, stays_null}
 use Rattle.mls_c.specs.contracts.pointer.nothing as none
 use Rattle.mls_c.proofs.pointer.nothing.Met as none_thm
-use Rattle.mls_c.specs.contracts.pointer.swapped as swapped
-use Rattle.mls_c.proofs.pointer.swapped.Met as swapped_thm
+use Rattle.mls_c.specs.contracts.pointer.swap_held as swap_held
+use Rattle.mls_c.proofs.pointer.swap_held.Met as swap_held_thm
 use Rattle.mls_c.specs.contracts.pointer.let_go as lets
 use Rattle.mls_c.proofs.pointer.let_go.Met as lets_thm
 use Rattle.mls_c.specs.contracts.copying.copy_out as out
@@ -74,10 +74,10 @@ copy_bytes_spec 𝓤 𝓛 𝓜 𝓡 wired =
     calls_at ! fm Nones (none_thm.met 𝓤 𝓛 𝓜 𝓡 (code.calls-mls_c::pointer::nothing 𝓡.env wired)) z₁ (no_more !) (λ v₁. comes ! tt none.ended (none.clauses 𝓛 𝓜.mem 𝓡.returns) z₁ v₁ (λ x₀ ws₁. move ! (1 ∷ []) $
     use1 𝓛 (raw (fact 𝓤 (x₀ ≡ Nothing))) (id⊢ 𝓤 _) $ heard ! (x₀ ≡ Nothing) (λ is₁. typed R (held_laws.the_row_laws.lawful 𝓛) ! x₀ v₁ (λ ok₁. lands_as ! refl refl ok₁.0 $
     -- [nothing; the buffer; the token; the handle]
-    let Swaps = triple_of 𝓛 swapped.signature (swapped.spec 𝓛 𝓜.mem 𝓡.returns) in let swaps = swapped_thm.met 𝓤 𝓛 𝓜 𝓡 (code.calls-mls_c::pointer::swapped 𝓡.env wired) in
+    let Swaps = triple_of 𝓛 swap_held.signature (swap_held.spec 𝓛 𝓜.mem 𝓡.returns) in let swaps = swap_held_thm.met 𝓤 𝓛 𝓜 𝓡 (code.calls-mls_c::pointer::swap_held 𝓡.env wired) in
     let z₂ : Swaps.Ghost = ((tt, tt, tt, (at, (x₀, tt)), (ptr_val at ∷ [], (v₁ ∷ [], tt))), x) in
     nothing ! $ move ! (1 ∷ 0 ∷ []) $ fjoin ! $ owned ! RawPtr (Is RawPtr) (rawptr_Makes 𝓛) at (ptr_val at ∷ []) refl $ fjoin ! $ nothing ! $ join ! $ move ! (3 ∷ []) $ holds ! (IfNull at (x₀ ≡ Nothing)) (if_null at is₁) $ join ! $ move ! (1 ∷ 0 ∷ []) $ join ! $ use1 𝓛 (raw (Swaps.pre z₂)) (id⊢ 𝓤 _) $
-    calls_at ! fm Swaps swaps z₂ (and_then ! (get ! refl) (and_then ! (get ! refl) (no_more !))) (λ v₂. comes ! tt swapped.ended (swapped.clauses 𝓛 𝓜.mem 𝓡.returns) z₂ v₂ (λ h₀ ws₂. move ! (1 ∷ []) $
+    calls_at ! fm Swaps swaps z₂ (and_then ! (get ! refl) (and_then ! (get ! refl) (no_more !))) (λ v₂. comes ! tt swap_held.ended (swap_held.clauses 𝓛 𝓜.mem 𝓡.returns) z₂ v₂ (λ h₀ ws₂. move ! (1 ∷ []) $
     use1 𝓛 (raw (fact 𝓤 (h₀ ≡ x)) ⊛ raw (fact 𝓤 (IfNull at (x ≡ Nothing))) ⊛ ‵ (held_at at x₀)) (id⊢ 𝓤 _) $ split3 ! $ heard ! (h₀ ≡ x) (λ same. heard ! (IfNull at (x ≡ Nothing)) (λ was. move ! (1 ∷ []) $
     rewrite ! 0 (λ (k : Held). ‵ (R.own_val k (v₂ ∷ []))) same refl $ typed R (held_laws.the_row_laws.lawful 𝓛) ! x v₂ (λ ok₂. lands_as ! refl refl ok₂.0 $
     -- [the value; the handle; the buffer; the token]
@@ -86,18 +86,18 @@ copy_bytes_spec 𝓤 𝓛 𝓜 𝓡 wired =
     let z₃ : Outs.Ghost = (((κ, tt), (q, tt), tt, (x, (buf, tt)), (v₂ ∷ [], (slice ∷ [], tt))), tt) in
     move ! (2 ∷ []) $ nothing ! $ move ! (1 ∷ 0 ∷ []) $ fjoin ! $ move ! (1 ∷ 0 ∷ []) $ fjoin ! $ nothing ! $ move ! (3 ∷ 0 ∷ []) $ join ! $ join ! $ nothing ! $ move ! (1 ∷ 0 ∷ []) $ join ! $ use1 𝓛 (raw (Outs.pre z₃)) (id⊢ 𝓤 _) $
     calls_at ! fm Outs (out_thm.met 𝓤 𝓛 𝓜 𝓡 (code.calls-mls_c::copying::copy_out 𝓡.env wired)) z₃ (and_then ! (get ! refl) (and_then ! (get ! refl) (no_more !))) (λ v₃.
-    use1 𝓛 (later (some (λ (d : CopiedValue). ((‵ (flft κ q) ⊛ ‵ ftrue) ⊛ ‵ (copied.the_row.own_val d (v₃ ∷ []))) ⊛ some (λ (ws : Lasts out.ended (κ, tt) (x, (buf, tt))). ‵ (lasts out.ended (κ, tt) (x, (buf, tt)) ws) ⊛ raw (fact 𝓤 (d.held ≡ x)) ⊛ raw (fact 𝓤 (Copies (shown x) buf.now ws.1.0 d.answer)))))) (id⊢ 𝓤 _) $
+    use1 𝓛 (later (some (λ (d : CopyValue). ((‵ (flft κ q) ⊛ ‵ ftrue) ⊛ ‵ (copy_outcome.the_row.own_val d (v₃ ∷ []))) ⊛ some (λ (ws : Lasts out.ended (κ, tt) (x, (buf, tt))). ‵ (lasts out.ended (κ, tt) (x, (buf, tt)) ws) ⊛ raw (fact 𝓤 (d.held ≡ x)) ⊛ raw (fact 𝓤 (Copies (shown x) buf.now ws.1.0 d.answer)))))) (id⊢ 𝓤 _) $
     await ! tt $ pick ! (λ d. split ! $ split ! $ split ! $ move ! (1 ∷ []) $ drop ! $ move ! (2 ∷ []) $ pick ! (λ ws. split3 ! $ move ! (1 ∷ 2 ∷ []) $ heard ! (d.held ≡ x) (λ kept. heard ! (Copies (shown x) buf.now ws.1.0 d.answer) (λ copies.
     -- [the last value; the token; what is left; the handle]
     fsplit ! $ drop ! $ fsplit ! $ fsplit ! $ fsplit ! $ move ! (1 ∷ []) $ feq_l ! (λ long. fjoin ! $ move ! (1 ∷ []) $ drop ! $ move ! (2 ∷ []) $
     -- [what is left; the last value; the token; the handle]
-    typed copied.the_row (copied_laws.the_row_laws.lawful 𝓛) ! d v₃ (λ ok₃. copied_apart ! d (v₃ ∷ []) (λ u is₃ good low. lands_as ! (ap only is₃) refl ((subst (Typed copied.the_row.mir) is₃ ok₃).0) $
+    typed copy_outcome.the_row (copy_outcome_laws.the_row_laws.lawful 𝓛) ! d v₃ (λ ok₃. copy_apart ! d (v₃ ∷ []) (λ u is₃ good low. lands_as ! (ap only is₃) refl ((subst (Typed copy_outcome.the_row.mir) is₃ ok₃).0) $
     rewrite ! 0 (λ (k : Held). ‵ (R.own_val k (u ∷ []))) kept refl $
     sets ! (of_opd ! (get_in ! (fld ! refl (stop !)) (sub ! 0 refl (whole !)))) refl good $ sets ! (of_opd ! (get_in ! (fld ! refl (stop !)) (sub ! 1 refl (whole !)))) refl (tt, record { fits = low }) $
     sets ! (of_opd ! (get ! refl)) refl good $
     let z₄ : Swaps.Ghost = ((tt, tt, tt, (at, (x, tt)), (ptr_val at ∷ [], (u ∷ [], tt))), x₀) in
     nothing ! $ move ! (1 ∷ 0 ∷ []) $ fjoin ! $ owned ! RawPtr (Is RawPtr) (rawptr_Makes 𝓛) at (ptr_val at ∷ []) refl $ fjoin ! $ nothing ! $ join ! $ move ! (3 ∷ []) $ holds ! (IfNull at (x ≡ Nothing)) was $ join ! $ move ! (1 ∷ 0 ∷ []) $ join ! $ use1 𝓛 (raw (Swaps.pre z₄)) (id⊢ 𝓤 _) $
-    calls_at ! fm Swaps swaps z₄ (and_then ! (get ! refl) (and_then ! (get ! refl) (no_more !))) (λ v₄. comes ! tt swapped.ended (swapped.clauses 𝓛 𝓜.mem 𝓡.returns) z₄ v₄ (λ h₁ ws₄. move ! (1 ∷ []) $
+    calls_at ! fm Swaps swaps z₄ (and_then ! (get ! refl) (and_then ! (get ! refl) (no_more !))) (λ v₄. comes ! tt swap_held.ended (swap_held.clauses 𝓛 𝓜.mem 𝓡.returns) z₄ v₄ (λ h₁ ws₄. move ! (1 ∷ []) $
     use1 𝓛 (raw (fact 𝓤 (h₁ ≡ x₀)) ⊛ raw (fact 𝓤 (IfNull at (x₀ ≡ Nothing))) ⊛ ‵ (held_at at x)) (id⊢ 𝓤 _) $ split3 ! $ drop ! $ drop ! $ move ! (1 ∷ []) $
     typed R (held_laws.the_row_laws.lawful 𝓛) ! h₁ v₄ (λ ok₄. lands_as ! refl refl ok₄.0 $
     let Lets = triple_of 𝓛 lets.signature (lets.spec 𝓛 𝓜.mem 𝓡.returns) in let z₅ : Lets.Ghost = ((tt, tt, tt, (h₁, tt), (v₄ ∷ [], tt)), tt) in

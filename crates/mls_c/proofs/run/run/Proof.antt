@@ -1,4 +1,4 @@
--- `run` copies the bytes, takes the value out of the handle, lets `answered` work on it, and puts back what it leaves.
+-- `run` copies the bytes, takes the value out of the handle, lets `do_call` work on it, and puts back what it leaves.
 use Rattle.std.proofs.Common.{◌≡◌, ℕ, List, [], ◌∷◌, ◌++◌, refl, ap, subst, w32, w64}
 use base.Logic.{id⊢}
 use base.Fml.{ftrue, fsep}
@@ -28,7 +28,7 @@ use Rattle.std.proofs.raw_atomic.Walks.{proved, leaves}
 use Rattle.std.specs.declared.alloc.Global.{Global}
 use Rattle.std.specs.contracts.alloc.Global as heap
 use Rattle.std.proofs.alloc.Global.TheLaws as heap_laws
-use Rattle.mls_c.specs.Memory.{IfNull, held_at, bytes_at, handle_put, number_put, asked_at, HasAnswered, Outcome, left_at, says, made_of, other_of, value_of, number_answered, IsParted, Passed}
+use Rattle.mls_c.specs.Memory.{IfNull, held_at, bytes_at, handle_put, number_put, asked_at, HasAnswered, Outcome, left_at, says, made_of, other_of, value_of, answer_number, ArePartsOf, Passed}
 use Rattle.mls_c.specs.Answers.{DoesCall}
 use Rattle.mls_c.specs.Given.{IsGiven, given_bytes}
 use Rattle.mls_c.specs.Shown.{boxed, shown}
@@ -48,22 +48,22 @@ use Rattle.mls_c.proofs.done.Parts.TheLaws as parts_laws
 use Rattle.mls_c.proofs.CallRows.{Made}
 use Rattle.mls_c.proofs.Rows.{typed, comes, holds}
 use Rattle.mls_c.proofs.Apart.{done_apart, parts_apart, if_null, stays_null}
-use Rattle.mls_c.specs.contracts.pointer.copied as copied
-use Rattle.mls_c.proofs.pointer.copied.Met as copied_thm
+use Rattle.mls_c.specs.contracts.pointer.copy_at as copy_at
+use Rattle.mls_c.proofs.pointer.copy_at.Met as copy_at_thm
 use Rattle.mls_c.specs.contracts.pointer.nothing as none
 use Rattle.mls_c.proofs.pointer.nothing.Met as none_thm
-use Rattle.mls_c.specs.contracts.pointer.swapped as swapped
-use Rattle.mls_c.proofs.pointer.swapped.Met as swapped_thm
+use Rattle.mls_c.specs.contracts.pointer.swap_held as swap_held
+use Rattle.mls_c.proofs.pointer.swap_held.Met as swap_held_thm
 use Rattle.mls_c.specs.contracts.pointer.let_go as lets
 use Rattle.mls_c.proofs.pointer.let_go.Met as lets_thm
 use Rattle.mls_c.specs.contracts.pointer.put_handle as puts
 use Rattle.mls_c.proofs.pointer.put_handle.Met as puts_thm
 use Rattle.mls_c.specs.contracts.pointer.put_number as numbers
 use Rattle.mls_c.proofs.pointer.put_number.Met as numbers_thm
-use Rattle.mls_c.specs.contracts.answered.answered as answers
-use Rattle.mls_c.proofs.answered.answered.Met as answers_thm
-use Rattle.mls_c.specs.contracts.done.parted as parted
-use Rattle.mls_c.proofs.done.parted.Met as parted_thm
+use Rattle.mls_c.specs.contracts.dispatch.do_call as answers
+use Rattle.mls_c.proofs.dispatch.do_call.Met as answers_thm
+use Rattle.mls_c.specs.contracts.done.parts_of as parts_of
+use Rattle.mls_c.proofs.done.parts_of.Met as parts_of_thm
 use Rattle.mls_c.specs.contracts.run.run as f
 use Rattle.mls_c.proofs.run.run.Statement.{statement}
 use Rattle.mls_c.proofs.run.run.Code as code
@@ -101,20 +101,20 @@ run_spec 𝓤 𝓛 𝓜 𝓡 wired =
     -- [five times the allocator; the room; the bytes; the handle; the call]
     enter ! 𝓣.C 𝓣.Λ code.function (heap_word a ∷ call_word which ∷ vint w64 number ∷ ptr_val at ∷ ptr_val p ∷ vint w64 n ∷ ptr_val q ∷ vint w64 m ∷ ptr_val r ∷ vint w64 k ∷ ptr_val made ∷ ptr_val other ∷ ptr_val value ∷ []) (W.post y) $
     alloc_all ! (λ l. pass_all ! refl (heap_ok, (call_ok, ((tt, record { fits = are.1.1.0.1 }), (ptr_ok at, (ptr_ok p, ((tt, record { fits = are.1.1.1.1.1.0.1 }), (ptr_ok q, ((tt, record { fits = are.1.1.1.1.1.1.1.0.1 }), (ptr_ok r, ((tt, record { fits = are.1.1.1.1.1.1.1.1.1.0.1 }), (ptr_ok made, (ptr_ok other, (ptr_ok value, tt))))))))))))) $
-    let Copies = triple_of 𝓛 copied.signature (copied.spec 𝓛 𝓜.mem 𝓡.returns) in let copies = copied_thm.met 𝓤 𝓛 𝓜 𝓡 (code.calls-mls_c::pointer::copied 𝓡.env wired) in
+    let Copies = triple_of 𝓛 copy_at.signature (copy_at.spec 𝓛 𝓜.mem 𝓡.returns) in let copies = copy_at_thm.met 𝓤 𝓛 𝓜 𝓡 (code.calls-mls_c::pointer::copy_at 𝓡.env wired) in
     let z₁ : Copies.Ghost = ((tt, tt, tt, (a, (p, (n, tt))), (heap_word a ∷ [], (ptr_val p ∷ [], (vint w64 n ∷ [], tt)))), asked.first) in
     owned ! usize (Is usize) (uint_Makes 𝓛 w64) n (vint w64 n ∷ []) (refl, are.1.1.1.1.1.0.1) $ nothing ! $ move ! (1 ∷ 0 ∷ []) $ fjoin ! $ owned ! RawPtr (Is RawPtr) (rawptr_Makes 𝓛) p (ptr_val p ∷ []) refl $ fjoin ! $ move ! (1 ∷ 0 ∷ []) $ fjoin ! $ nothing ! $ join ! $ move ! (0 ∷ 11 ∷ []) $ join ! $ use1 𝓛 (raw (Copies.pre z₁)) (id⊢ 𝓤 _) $
-    calls_at ! fm Copies copies z₁ (and_then ! (get ! refl) (and_then ! (get ! refl) (and_then ! (get ! refl) (no_more !)))) (λ v₁. comes ! tt copied.ended (copied.clauses 𝓛 𝓜.mem 𝓡.returns) z₁ v₁ (λ r₁ ws₁. move ! (1 ∷ []) $
+    calls_at ! fm Copies copies z₁ (and_then ! (get ! refl) (and_then ! (get ! refl) (and_then ! (get ! refl) (no_more !)))) (λ v₁. comes ! tt copy_at.ended (copy_at.clauses 𝓛 𝓜.mem 𝓡.returns) z₁ v₁ (λ r₁ ws₁. move ! (1 ∷ []) $
     use1 𝓛 (raw (fact 𝓤 (IsGiven p n asked.first.1 r₁.bytes)) ⊛ ‵ (bytes_at asked.first.0 p n asked.first.1)) (id⊢ 𝓤 _) $ split ! $ heard ! (IsGiven p n asked.first.1 r₁.bytes) (λ is₁. move ! (1 ∷ []) $
     typed G (given_laws.the_row_laws.lawful 𝓛) ! r₁ v₁ (λ ok₁. lands_as ! refl refl ok₁.0 $
     let z₂ : Copies.Ghost = ((tt, tt, tt, (a, (q, (m, tt))), (heap_word a ∷ [], (ptr_val q ∷ [], (vint w64 m ∷ [], tt)))), asked.second) in
     owned ! usize (Is usize) (uint_Makes 𝓛 w64) m (vint w64 m ∷ []) (refl, are.1.1.1.1.1.1.1.0.1) $ nothing ! $ move ! (1 ∷ 0 ∷ []) $ fjoin ! $ owned ! RawPtr (Is RawPtr) (rawptr_Makes 𝓛) q (ptr_val q ∷ []) refl $ fjoin ! $ move ! (3 ∷ 0 ∷ []) $ fjoin ! $ nothing ! $ join ! $ move ! (0 ∷ 10 ∷ []) $ join ! $ use1 𝓛 (raw (Copies.pre z₂)) (id⊢ 𝓤 _) $
-    calls_at ! fm Copies copies z₂ (and_then ! (get ! refl) (and_then ! (get ! refl) (and_then ! (get ! refl) (no_more !)))) (λ v₂. comes ! tt copied.ended (copied.clauses 𝓛 𝓜.mem 𝓡.returns) z₂ v₂ (λ r₂ ws₂. move ! (1 ∷ []) $
+    calls_at ! fm Copies copies z₂ (and_then ! (get ! refl) (and_then ! (get ! refl) (and_then ! (get ! refl) (no_more !)))) (λ v₂. comes ! tt copy_at.ended (copy_at.clauses 𝓛 𝓜.mem 𝓡.returns) z₂ v₂ (λ r₂ ws₂. move ! (1 ∷ []) $
     use1 𝓛 (raw (fact 𝓤 (IsGiven q m asked.second.1 r₂.bytes)) ⊛ ‵ (bytes_at asked.second.0 q m asked.second.1)) (id⊢ 𝓤 _) $ split ! $ heard ! (IsGiven q m asked.second.1 r₂.bytes) (λ is₂. move ! (1 ∷ []) $
     typed G (given_laws.the_row_laws.lawful 𝓛) ! r₂ v₂ (λ ok₂. lands_as ! refl refl ok₂.0 $
     let z₃ : Copies.Ghost = ((tt, tt, tt, (a, (r, (k, tt))), (heap_word a ∷ [], (ptr_val r ∷ [], (vint w64 k ∷ [], tt)))), asked.third) in
     owned ! usize (Is usize) (uint_Makes 𝓛 w64) k (vint w64 k ∷ []) (refl, are.1.1.1.1.1.1.1.1.1.0.1) $ nothing ! $ move ! (1 ∷ 0 ∷ []) $ fjoin ! $ owned ! RawPtr (Is RawPtr) (rawptr_Makes 𝓛) r (ptr_val r ∷ []) refl $ fjoin ! $ move ! (5 ∷ 0 ∷ []) $ fjoin ! $ nothing ! $ join ! $ move ! (0 ∷ 11 ∷ []) $ join ! $ use1 𝓛 (raw (Copies.pre z₃)) (id⊢ 𝓤 _) $
-    calls_at ! fm Copies copies z₃ (and_then ! (get ! refl) (and_then ! (get ! refl) (and_then ! (get ! refl) (no_more !)))) (λ v₃. comes ! tt copied.ended (copied.clauses 𝓛 𝓜.mem 𝓡.returns) z₃ v₃ (λ r₃ ws₃. move ! (1 ∷ []) $
+    calls_at ! fm Copies copies z₃ (and_then ! (get ! refl) (and_then ! (get ! refl) (and_then ! (get ! refl) (no_more !)))) (λ v₃. comes ! tt copy_at.ended (copy_at.clauses 𝓛 𝓜.mem 𝓡.returns) z₃ v₃ (λ r₃ ws₃. move ! (1 ∷ []) $
     use1 𝓛 (raw (fact 𝓤 (IsGiven r k asked.third.1 r₃.bytes)) ⊛ ‵ (bytes_at asked.third.0 r k asked.third.1)) (id⊢ 𝓤 _) $ split ! $ heard ! (IsGiven r k asked.third.1 r₃.bytes) (λ is₃. move ! (1 ∷ []) $
     typed G (given_laws.the_row_laws.lawful 𝓛) ! r₃ v₃ (λ ok₃. lands_as ! refl refl ok₃.0 $
     -- what the handle holds is taken out
@@ -122,17 +122,17 @@ run_spec 𝓤 𝓛 𝓜 𝓡 wired =
     nothing ! $ nothing ! $ join ! $ nothing ! $ move ! (1 ∷ 0 ∷ []) $ join ! $ use1 𝓛 (raw (Nones.pre z₄)) (id⊢ 𝓤 _) $
     calls_at ! fm Nones (none_thm.met 𝓤 𝓛 𝓜 𝓡 (code.calls-mls_c::pointer::nothing 𝓡.env wired)) z₄ (no_more !) (λ v₄. comes ! tt none.ended (none.clauses 𝓛 𝓜.mem 𝓡.returns) z₄ v₄ (λ x₀ ws₄. move ! (1 ∷ []) $
     use1 𝓛 (raw (fact 𝓤 (x₀ ≡ Nothing))) (id⊢ 𝓤 _) $ heard ! (x₀ ≡ Nothing) (λ is₄. typed R (held_laws.the_row_laws.lawful 𝓛) ! x₀ v₄ (λ ok₄. lands_as ! refl refl ok₄.0 $
-    let Swaps = triple_of 𝓛 swapped.signature (swapped.spec 𝓛 𝓜.mem 𝓡.returns) in let swaps = swapped_thm.met 𝓤 𝓛 𝓜 𝓡 (code.calls-mls_c::pointer::swapped 𝓡.env wired) in
+    let Swaps = triple_of 𝓛 swap_held.signature (swap_held.spec 𝓛 𝓜.mem 𝓡.returns) in let swaps = swap_held_thm.met 𝓤 𝓛 𝓜 𝓡 (code.calls-mls_c::pointer::swap_held 𝓡.env wired) in
     let z₅ : Swaps.Ghost = ((tt, tt, tt, (at, (x₀, tt)), (ptr_val at ∷ [], (v₄ ∷ [], tt))), asked.held) in
     nothing ! $ move ! (1 ∷ 0 ∷ []) $ fjoin ! $ owned ! RawPtr (Is RawPtr) (rawptr_Makes 𝓛) at (ptr_val at ∷ []) refl $ fjoin ! $ nothing ! $ join ! $ move ! (13 ∷ []) $ holds ! (IfNull at (x₀ ≡ Nothing)) (if_null at is₄) $ join ! $ move ! (1 ∷ 0 ∷ []) $ join ! $ use1 𝓛 (raw (Swaps.pre z₅)) (id⊢ 𝓤 _) $
-    calls_at ! fm Swaps swaps z₅ (and_then ! (get ! refl) (and_then ! (get ! refl) (no_more !))) (λ v₅. comes ! tt swapped.ended (swapped.clauses 𝓛 𝓜.mem 𝓡.returns) z₅ v₅ (λ h₀ ws₅. move ! (1 ∷ []) $
+    calls_at ! fm Swaps swaps z₅ (and_then ! (get ! refl) (and_then ! (get ! refl) (no_more !))) (λ v₅. comes ! tt swap_held.ended (swap_held.clauses 𝓛 𝓜.mem 𝓡.returns) z₅ v₅ (λ h₀ ws₅. move ! (1 ∷ []) $
     use1 𝓛 (raw (fact 𝓤 (h₀ ≡ asked.held)) ⊛ raw (fact 𝓤 (IfNull at (asked.held ≡ Nothing))) ⊛ ‵ (held_at at x₀)) (id⊢ 𝓤 _) $ split3 ! $ heard ! (h₀ ≡ asked.held) (λ same. heard ! (IfNull at (asked.held ≡ Nothing)) (λ was. move ! (1 ∷ []) $
     rewrite ! 0 (λ (x : Held). ‵ (R.own_val x (v₅ ∷ []))) same refl $ typed R (held_laws.the_row_laws.lawful 𝓛) ! asked.held v₅ (λ ok₅. lands_as ! refl refl ok₅.0 $
     sets ! (of_opd ! (get ! refl)) refl ok₅.0 $ sets ! (of_opd ! (get ! refl)) refl ok₁.0 $ sets ! (of_opd ! (get ! refl)) refl ok₂.0 $ sets ! (of_opd ! (get ! refl)) refl ok₃.0 $
     let Says = triple_of 𝓛 answers.signature (answers.spec 𝓛 𝓜.mem 𝓡.returns) in
     let z₆ : Says.Ghost = ((tt, tt, tt, (a, (which, (number, (asked.held, (r₁, (r₂, (r₃, tt))))))), (heap_word a ∷ [], (call_word which ∷ [], (vint w64 number ∷ [], (v₅ ∷ [], (v₁ ∷ [], (v₂ ∷ [], (v₃ ∷ [], tt)))))))), tt) in
     move ! (2 ∷ []) $ nothing ! $ move ! (1 ∷ 0 ∷ []) $ fjoin ! $ move ! (4 ∷ 0 ∷ []) $ fjoin ! $ move ! (5 ∷ 0 ∷ []) $ fjoin ! $ move ! (1 ∷ 0 ∷ []) $ fjoin ! $ owned ! u64 (Is u64) (uint_Makes 𝓛 w64) number (vint w64 number ∷ []) (refl, are.1.1.0.1) $ fjoin ! $ move ! (11 ∷ 0 ∷ []) $ fjoin ! $ move ! (5 ∷ 0 ∷ []) $ fjoin ! $ nothing ! $ join ! $ nothing ! $ move ! (1 ∷ 0 ∷ []) $ join ! $ use1 𝓛 (raw (Says.pre z₆)) (id⊢ 𝓤 _) $
-    calls_at ! fm Says (answers_thm.met 𝓤 𝓛 𝓜 𝓡 (code.calls-mls_c::answered::answered 𝓡.env wired)) z₆ (and_then ! (get ! refl) (and_then ! (get ! refl) (and_then ! (get ! refl) (and_then ! (get ! refl) (and_then ! (get ! refl) (and_then ! (get ! refl) (and_then ! (get ! refl) (no_more !)))))))) (λ v₆. comes ! tt answers.ended (answers.clauses 𝓛 𝓜.mem 𝓡.returns) z₆ v₆ (λ d ws₆. move ! (1 ∷ []) $
+    calls_at ! fm Says (answers_thm.met 𝓤 𝓛 𝓜 𝓡 (code.calls-mls_c::dispatch::do_call 𝓡.env wired)) z₆ (and_then ! (get ! refl) (and_then ! (get ! refl) (and_then ! (get ! refl) (and_then ! (get ! refl) (and_then ! (get ! refl) (and_then ! (get ! refl) (and_then ! (get ! refl) (no_more !)))))))) (λ v₆. comes ! tt answers.ended (answers.clauses 𝓛 𝓜.mem 𝓡.returns) z₆ v₆ (λ d ws₆. move ! (1 ∷ []) $
     use1 𝓛 (raw (fact 𝓤 (DoesCall which number (shown asked.held) (given_bytes r₁.bytes) (given_bytes r₂.bytes) (given_bytes r₃.bytes) d)) ⊛ raw (fact 𝓤 (asked.held ≡ Nothing → d.held ≡ Nothing))) (id⊢ 𝓤 _) $ split ! $ heard ! (DoesCall which number (shown asked.held) (given_bytes r₁.bytes) (given_bytes r₂.bytes) (given_bytes r₃.bytes) d) (λ does. heard ! (asked.held ≡ Nothing → d.held ≡ Nothing) (λ stays.
     typed done.the_row (done_laws.the_row_laws.lawful 𝓛) ! d v₆ (λ ok₆. done_apart ! d (v₆ ∷ []) (λ u₁ u₂ is₆ good₁ good₂. lands_as ! (ap only is₆) refl ((subst (Typed done.the_row.mir) is₆ ok₆).0) $
     sets ! (of_opd ! (get_in ! (fld ! refl (stop !)) (sub ! 0 refl (whole !)))) refl good₁ $ sets ! (of_opd ! (get_in ! (fld ! refl (stop !)) (sub ! 1 refl (whole !)))) refl good₂ $
@@ -140,7 +140,7 @@ run_spec 𝓤 𝓛 𝓜 𝓡 wired =
     sets ! (of_opd ! (get ! refl)) refl good₁ $
     let z₇ : Swaps.Ghost = ((tt, tt, tt, (at, (d.held, tt)), (ptr_val at ∷ [], (u₁ ∷ [], tt))), x₀) in
     move ! (0 ∷ []) $ nothing ! $ move ! (1 ∷ 0 ∷ []) $ fjoin ! $ owned ! RawPtr (Is RawPtr) (rawptr_Makes 𝓛) at (ptr_val at ∷ []) refl $ fjoin ! $ nothing ! $ join ! $ move ! (2 ∷ []) $ holds ! (IfNull at (d.held ≡ Nothing)) (stays_null at was stays) $ join ! $ move ! (1 ∷ 0 ∷ []) $ join ! $ use1 𝓛 (raw (Swaps.pre z₇)) (id⊢ 𝓤 _) $
-    calls_at ! fm Swaps swaps z₇ (and_then ! (get ! refl) (and_then ! (get ! refl) (no_more !))) (λ v₇. comes ! tt swapped.ended (swapped.clauses 𝓛 𝓜.mem 𝓡.returns) z₇ v₇ (λ h₁ ws₇. move ! (1 ∷ []) $
+    calls_at ! fm Swaps swaps z₇ (and_then ! (get ! refl) (and_then ! (get ! refl) (no_more !))) (λ v₇. comes ! tt swap_held.ended (swap_held.clauses 𝓛 𝓜.mem 𝓡.returns) z₇ v₇ (λ h₁ ws₇. move ! (1 ∷ []) $
     use1 𝓛 (raw (fact 𝓤 (h₁ ≡ x₀)) ⊛ raw (fact 𝓤 (IfNull at (x₀ ≡ Nothing))) ⊛ ‵ (held_at at d.held)) (id⊢ 𝓤 _) $ split3 ! $ drop ! $ drop ! $ move ! (1 ∷ []) $
     typed R (held_laws.the_row_laws.lawful 𝓛) ! h₁ v₇ (λ ok₇. lands_as ! refl refl ok₇.0 $
     let Lets = triple_of 𝓛 lets.signature (lets.spec 𝓛 𝓜.mem 𝓡.returns) in let z₈ : Lets.Ghost = ((tt, tt, tt, (h₁, tt), (v₇ ∷ [], tt)), tt) in
@@ -149,10 +149,10 @@ run_spec 𝓤 𝓛 𝓜 𝓡 wired =
     drop ! $
     -- what was made is written
     sets ! (of_opd ! (get ! refl)) refl good₂ $
-    let Partings = triple_of 𝓛 parted.signature (parted.spec 𝓛 𝓜.mem 𝓡.returns) in let z₉ : Partings.Ghost = ((tt, tt, tt, (d.outcome, tt), (u₂ ∷ [], tt)), tt) in
+    let Partings = triple_of 𝓛 parts_of.signature (parts_of.spec 𝓛 𝓜.mem 𝓡.returns) in let z₉ : Partings.Ghost = ((tt, tt, tt, (d.outcome, tt), (u₂ ∷ [], tt)), tt) in
     move ! (1 ∷ []) $ nothing ! $ move ! (1 ∷ 0 ∷ []) $ fjoin ! $ nothing ! $ join ! $ nothing ! $ move ! (1 ∷ 0 ∷ []) $ join ! $ use1 𝓛 (raw (Partings.pre z₉)) (id⊢ 𝓤 _) $
-    calls_at ! fm Partings (parted_thm.met 𝓤 𝓛 𝓜 𝓡 (code.calls-mls_c::done::parted 𝓡.env wired)) z₉ (and_then ! (get ! refl) (no_more !)) (λ v₉. comes ! tt parted.ended (parted.clauses 𝓛 𝓜.mem 𝓡.returns) z₉ v₉ (λ g ws₉. move ! (1 ∷ []) $
-    use1 𝓛 (raw (fact 𝓤 (IsParted d.outcome g))) (id⊢ 𝓤 _) $ heard ! (IsParted d.outcome g) (λ parts₉.
+    calls_at ! fm Partings (parts_of_thm.met 𝓤 𝓛 𝓜 𝓡 (code.calls-mls_c::done::parts_of 𝓡.env wired)) z₉ (and_then ! (get ! refl) (no_more !)) (λ v₉. comes ! tt parts_of.ended (parts_of.clauses 𝓛 𝓜.mem 𝓡.returns) z₉ v₉ (λ g ws₉. move ! (1 ∷ []) $
+    use1 𝓛 (raw (fact 𝓤 (ArePartsOf d.outcome g))) (id⊢ 𝓤 _) $ heard ! (ArePartsOf d.outcome g) (λ parts₉.
     typed parts.the_row (parts_laws.the_row_laws.lawful 𝓛) ! g v₉ (λ ok₉. parts_apart ! g (v₉ ∷ []) (λ w₁ w₂ is₉ good₃ good₄ low₁ low₂. lands_as ! (ap only is₉) refl ((subst (Typed parts.the_row.mir) is₉ ok₉).0) $
     sets ! (of_opd ! (get_in ! (fld ! refl (stop !)) (sub ! 0 refl (whole !)))) refl good₃ $ sets ! (of_opd ! (get_in ! (fld ! refl (stop !)) (sub ! 1 refl (whole !)))) refl good₄ $
     sets ! (of_opd ! (get_in ! (fld ! refl (stop !)) (sub ! 2 refl (whole !)))) refl (tt, record { fits = low₁ }) $ sets ! (of_opd ! (get_in ! (fld ! refl (stop !)) (sub ! 3 refl (whole !)))) refl (tt, record { fits = low₂ }) $

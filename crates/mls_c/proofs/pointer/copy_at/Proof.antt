@@ -1,4 +1,4 @@
--- `copied` lends the bytes for a lifetime that is made for the call of `bytes_of`, unless the pointer is null.
+-- `copy_at` lends the bytes for a lifetime that is made for the call of `bytes_of`, unless the pointer is null.
 use Rattle.std.proofs.Common.{◌≡◌, ℕ, ◌*◌, ◌^◌, ◌<◌, List, [], ◌∷◌, ◌++◌, length, refl, subst, arith, lit<, w8, w64, Bor}
 use seplogic.Ra.Ura.{Ura}
 use base.Fraction.{full_share}
@@ -56,9 +56,9 @@ use Rattle.mls_c.proofs.given.bytes_of.Met as of_thm
 use Rattle.mls_c.specs.contracts.given.no_bytes as no
 use Rattle.mls_c.proofs.given.no_bytes.Symbol.{name as #no-bytes}
 use Rattle.mls_c.proofs.given.no_bytes.Met as no_thm
-use Rattle.mls_c.specs.contracts.pointer.copied as f
-use Rattle.mls_c.proofs.pointer.copied.Statement.{statement}
-use Rattle.mls_c.proofs.pointer.copied.Code as code
+use Rattle.mls_c.specs.contracts.pointer.copy_at as f
+use Rattle.mls_c.proofs.pointer.copy_at.Statement.{statement}
+use Rattle.mls_c.proofs.pointer.copy_at.Code as code
 
 abbrev stayed : Stays f.ended.signature.params f.ended.kept
 stayed = (stay_dropped _ yes, (stay_dropped _ yes, (stay_dropped _ yes, tt)))
@@ -161,8 +161,8 @@ module _ {M : Type 1} {𝓤 : Ura M} (𝓛 : Logic 𝓤) (at_mem : Memory → SP
       by ! (subst (λ (m : ℕ). m < 2 ^ 63 → ent 𝓤 (sep 𝓤 (sem 𝓛 (Counted b o)) (sep 𝓤 (sem 𝓛 ftrue) (sem 𝓛 (Had (block_ptr b o) m)))) (Runs (block_ptr b o) m)) e (λ low. walk b o low ok.0) ok.1)))
   at_each null_ptr n fits = at_null n fits
 
-pub copied_spec : {M : Type 1} → statement M
-copied_spec 𝓤 𝓛 𝓜 𝓡 wired =
+pub copy_at_spec : {M : Type 1} → statement M
+copy_at_spec 𝓤 𝓛 𝓜 𝓡 wired =
     let H = 𝓛.H in let c = f.clauses 𝓛 𝓜.mem 𝓡.returns in let 𝓣 = tables 𝓤 H 𝓜 𝓡 𝓡.env in
     proved 𝓛 f.ended stayed c 𝓜 𝓡 (Goes-dropped 𝓛 0 (plain (λ _. heap.the_row)) yes (λ κs x w. refl), (Goes-dropped 𝓛 0 (plain (λ _. RawPtr)) yes (λ κs x w. refl), (Goes-dropped 𝓛 0 (plain (λ _. usize)) yes (λ κs x w. refl), tt)))
     f.Key.name code.function (code.unfolded 𝓤 H 𝓜 𝓡 wired)

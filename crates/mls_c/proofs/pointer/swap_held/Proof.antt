@@ -1,4 +1,4 @@
--- `swapped` reads the old value and writes the new one, unless the pointer is null.
+-- `swap_held` reads the old value and writes the new one, unless the pointer is null.
 use Rattle.std.proofs.Common.{◌≡◌, ℕ, List, [], ◌∷◌, ◌++◌, refl, sym, subst, lit<, ◌∙◌}
 use base.Logic.{guard_i}
 use contract.Monad.{fact_use}
@@ -41,9 +41,9 @@ use Rattle.mls_c.specs.contracts.held.Held as held
 use Rattle.mls_c.proofs.held.Held.TheLaws as held_laws
 use Rattle.mls_c.proofs.Rows.{by_pointer, typed, holds}
 use Rattle.mls_c.proofs.Exits.{held_blank}
-use Rattle.mls_c.specs.contracts.pointer.swapped as f
-use Rattle.mls_c.proofs.pointer.swapped.Statement.{statement}
-use Rattle.mls_c.proofs.pointer.swapped.Code as code
+use Rattle.mls_c.specs.contracts.pointer.swap_held as f
+use Rattle.mls_c.proofs.pointer.swap_held.Statement.{statement}
+use Rattle.mls_c.proofs.pointer.swap_held.Code as code
 
 abbrev stayed : Stays f.ended.signature.params f.ended.kept
 stayed = (stay_dropped _ yes, (stay_dropped _ yes, tt))
@@ -51,8 +51,8 @@ stayed = (stay_dropped _ yes, (stay_dropped _ yes, tt))
 abbrev R : RattleType
 R = held.the_row
 
-pub swapped_spec : {M : Type 1} → statement M
-swapped_spec 𝓤 𝓛 𝓜 𝓡 wired =
+pub swap_held_spec : {M : Type 1} → statement M
+swap_held_spec 𝓤 𝓛 𝓜 𝓡 wired =
     let H = 𝓛.H in let c = f.clauses 𝓛 𝓜.mem 𝓡.returns in let W = walk_of 𝓛 f.ended stayed c in let 𝓣 = tables 𝓤 H 𝓜 𝓡 𝓡.env in
     proved_at 𝓛 f.ended stayed c 𝓜 𝓡 (Goes-dropped 𝓛 0 (plain (λ _. RawPtr)) yes (λ κs x w. refl), (Goes-blank 𝓛 0 (plain (λ _. R)) yes (λ κs x w. held_blank x w), tt))
     f.Key.name code.function (code.unfolded 𝓤 H 𝓜 𝓡 wired) (λ z are.

@@ -14,7 +14,7 @@ use crate::{candidates, commits, conversations, members, names, saved, seen};
 use std::alloc::Global;
 
 /// What a call does with a number, with what its handle holds, and with three texts.
-pub(crate) fn answered(
+pub(crate) fn do_call(
     alloc: Global,
     call: Call,
     number: u64,
@@ -23,7 +23,8 @@ pub(crate) fn answered(
     second: Given,
     third: Given,
 ) -> Done
-    ensures does { DoesCall call number (shown held) (text first) (text second) (text third) result }
+    ensures does { DoesCall call number (shown held)
+        (text first) (text second) (text third) result }
     ensures stays { held ≡ Nothing → result.held ≡ Nothing }
 {
     match call {

@@ -1,4 +1,4 @@
--- `freed` lets the box go, unless the pointer is null.
+-- `free_handle` lets the box go, unless the pointer is null.
 use Rattle.std.proofs.Common.{◌≡◌, ℕ, List, [], ◌∷◌, ◌++◌, refl, lit<, w32}
 use base.Logic.{ent, sep, id⊢, guard_i}
 use base.Fml.{ftrue}
@@ -35,7 +35,7 @@ use Rattle.std_heap.proofs.GlobalToken.{dealloc_token-Testable}
 use Rattle.mls_c.specs.Faults.{number_of}
 use Rattle.mls_c.specs.declared.error.MisuseError.TheVariants.{NullHandle}
 use Rattle.mls_c.specs.Loose.{loose_owns}
-use Rattle.mls_c.specs.Memory.{held_at, freed_number}
+use Rattle.mls_c.specs.Memory.{held_at, free_answer}
 use Rattle.mls_c.specs.declared.held.Held.{Held}
 use Rattle.mls_c.specs.contracts.held.Held as held
 use Rattle.mls_c.proofs.Loosened.{both, Loose, loose_good, loose_in}
@@ -44,9 +44,9 @@ use Rattle.mls_c.specs.contracts.pointer.null_number as null_call
 use Rattle.mls_c.proofs.pointer.null_number.Met as null_thm
 use Rattle.mls_c.specs.contracts.pointer.free_loose as frees
 use Rattle.mls_c.proofs.pointer.free_loose.Met as frees_thm
-use Rattle.mls_c.specs.contracts.pointer.freed as f
-use Rattle.mls_c.proofs.pointer.freed.Statement.{statement}
-use Rattle.mls_c.proofs.pointer.freed.Code as code
+use Rattle.mls_c.specs.contracts.pointer.free_handle as f
+use Rattle.mls_c.proofs.pointer.free_handle.Statement.{statement}
+use Rattle.mls_c.proofs.pointer.free_handle.Code as code
 
 abbrev stayed : Stays f.ended.signature.params f.ended.kept
 stayed = (stay_dropped _ yes, (stay_dropped _ yes, tt))
@@ -57,8 +57,8 @@ R = held.the_row
 abbrev A : RattleType
 A = heap.the_row
 
-pub freed_spec : {M : Type 1} → statement M
-freed_spec 𝓤 𝓛 𝓜 𝓡 wired =
+pub free_handle_spec : {M : Type 1} → statement M
+free_handle_spec 𝓤 𝓛 𝓜 𝓡 wired =
     let H = 𝓛.H in let c = f.clauses 𝓛 𝓜.mem 𝓡.returns in let W = walk_of 𝓛 f.ended stayed c in let 𝓣 = tables 𝓤 H 𝓜 𝓡 𝓡.env in let fm = framed 𝓤 H 𝓜 𝓣 in let heap_word = heap_laws.the_told.val in
     proved 𝓛 f.ended stayed c 𝓜 𝓡 (Goes-dropped 𝓛 0 (plain (λ _. A)) yes (λ κs x w. refl), (Goes-dropped 𝓛 0 (plain (λ _. RawPtr)) yes (λ κs x w. refl), tt))
     f.Key.name code.function (code.unfolded 𝓤 H 𝓜 𝓡 wired)
