@@ -29,6 +29,7 @@ fn nodes_in(alloc: Global, bytes: &[u8]) -> Result<Option<RatchetTree>, AllocErr
         Ok(nodes) => Ok(Some(nodes)),
         Err(error) => {
             if error.number() == 1 {
+                // Want of memory: 1 is its number, and that of no other refusal.
                 return Err(AllocError);
             }
             Ok(None)
@@ -46,6 +47,7 @@ fn info_in(alloc: Global, bytes: &[u8]) -> Result<Option<GroupInfo>, AllocError>
         Ok(_) => Ok(None),
         Err(error) => {
             if error.number() == 1 {
+                // Want of memory: 1 is its number, and that of no other refusal.
                 return Err(AllocError);
             }
             Ok(None)
