@@ -58,6 +58,48 @@ impl Clock for Broken {
     }
 }
 
+/// What a run for words and a file ended with.
+#[derive(Drop)]
+struct Served {
+    status: u8,
+    out: Vec<u8>,
+    errors: Vec<u8>,
+}
+
+/// Runs `serve` for words and a file, and reports the events of a replay.
+fn serve_and_report<P: Progress>(
+    alloc: Global,
+    words: &[&str],
+    file: &str,
+    progress: &mut P,
+) -> Served {
+    let job = job(alloc, words);
+    let mut file = Some(file.as_bytes());
+    let mut out = Vec::new(alloc);
+    let mut errors = Vec::new(alloc);
+    let status = serve(
+        alloc,
+        &job,
+        &mut file,
+        &mut out,
+        &mut Out::new(&mut errors),
+        progress,
+    );
+    Served {
+        status,
+        out,
+        errors,
+    }
+}
+
+/// When it is said how far the job of words is, where the errors go to a terminal or don't.
+fn pace_for(alloc: Global, words: &[&str], is_terminal: bool) -> Pace {
+    match job(alloc, words) {
+        Ok(job) => pace_of(job.progress(), is_terminal),
+        Err(_) => Pace::Never,
+    }
+}
+
 /// The status for words and a file, what is printed, and what is said of how far the replay is, where the errors go
 /// to a terminal or don't.
 fn serve_with_progress<W: Write>(
@@ -67,24 +109,14 @@ fn serve_with_progress<W: Write>(
     is_terminal: bool,
     said: &mut W,
 ) -> Result<(u8, Vec<u8>), AllocError> {
-    let job = job(alloc, words);
-    let pace = match &job {
-        Ok(job) => pace_of(job.progress(), is_terminal),
-        Err(_) => Pace::Never,
-    };
     let clock = Ticking::new();
-    let mut file = Some(file.as_bytes());
-    let mut out = Vec::new(alloc);
-    let mut held = Vec::new(alloc);
-    let status = serve(
-        alloc,
-        &job,
-        &mut file,
-        &mut out,
-        &mut Out::new(&mut held),
-        &mut Meter::new(said, &clock, pace),
-    );
-    unless_out_of_memory(status, held.as_slice())?;
+    let mut meter = Meter::new(said, &clock, pace_for(alloc, words, is_terminal));
+    let Served {
+        status,
+        out,
+        errors,
+    } = serve_and_report(alloc, words, file, &mut meter);
+    unless_out_of_memory(status, errors.as_slice())?;
     Ok((status, out))
 }
 
@@ -227,22 +259,16 @@ fn goes_on_where_it_cannot_be_said(rt: HostRuntime) -> Result<(), Fail> {
 fn says_what_was_done_before_memory_was_wanting(rt: HostRuntime) -> Result<(), Fail> {
     let alloc = rt.alloc();
     let words: &[&str] = &["mls", "replay", "FILE", "--progress", "--quiet"];
-    let job = job(alloc, words);
     let mut said = roomy(alloc)?;
-    let mut file = Some(JOIN.as_bytes());
-    let mut out = Vec::new(alloc);
-    let mut held = Vec::new(alloc);
-    let status = serve(
-        alloc,
-        &job,
-        &mut file,
-        &mut out,
-        &mut Out::new(&mut held),
-        &mut Meter::new(&mut said, &Broken, Pace::Hundredths),
-    );
+    let mut meter = Meter::new(&mut said, &Broken, Pace::Hundredths);
+    let served = serve_and_report(alloc, words, JOIN, &mut meter);
     assert!(rt; EACH.as_bytes().starts_with(said.held.as_slice()));
-    if status == 3 {
-        assert!(rt; OUT_OF_MEMORY.as_bytes().starts_with(held.as_slice()));
+    if served.status == 3 {
+        assert!(rt;
+            OUT_OF_MEMORY
+                .as_bytes()
+                .starts_with(served.errors.as_slice())
+        );
     } else {
         assert!(rt; said.held.as_slice() == EACH.as_bytes());
     }
