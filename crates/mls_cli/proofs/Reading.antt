@@ -17,7 +17,8 @@ use Rattle.mls_cli_draw.specs.Picture.{row_text}
 use Rattle.mls_suite.specs.Glass.{glass}
 use Rattle.mls_cli.specs.declared.tasks.SuiteChoice.TheVariants as choice
 use Rattle.mls_cli.specs.Layouts.{lines_printout}
-use Rattle.mls_cli.specs.Serving.{IsPrintout, checking, file_page, read_of}
+use Rattle.mls_cli.specs.Pages.{checking, file_page}
+use Rattle.mls_cli.specs.Serving.{IsPrintout, read_of}
 
 pub long_page : {E : Type 0} (form : Form) (text : List ℕ) (page : Page E) → file_limit form < length text → file_page form text page ≡ refused 6
 long_page form text page long = cond-true (nat_lt (file_limit form) (length text)) _ _ (lt-ltb (file_limit form) (length text) long)

@@ -1,6 +1,6 @@
 //! What is said of how far a replay is, by way of `serve`.
 
-use crate::arguments::job;
+use crate::arguments::request;
 use crate::meter::{Meter, Pace, pace_of};
 use crate::serving::serve;
 use crate::tasks::ProgressChoice;
@@ -67,9 +67,9 @@ fn serve_with_progress<W: Write>(
     is_terminal: bool,
     said: &mut W,
 ) -> Result<(u8, Vec<u8>), AllocError> {
-    let job = job(alloc, words);
-    let pace = match &job {
-        Ok(job) => pace_of(job.progress(), is_terminal),
+    let request = request(alloc, words);
+    let pace = match &request {
+        Ok(request) => pace_of(request.job.progress(), is_terminal),
         Err(_) => Pace::Never,
     };
     let clock = Ticking::new();
@@ -78,7 +78,7 @@ fn serve_with_progress<W: Write>(
     let mut held = Vec::new(alloc);
     let status = serve(
         alloc,
-        &job,
+        &request,
         &mut file,
         &mut out,
         &mut Out::new(&mut held),
@@ -227,14 +227,14 @@ fn goes_on_where_it_cannot_be_said(rt: HostRuntime) -> Result<(), Fail> {
 fn says_what_was_done_before_memory_was_wanting(rt: HostRuntime) -> Result<(), Fail> {
     let alloc = rt.alloc();
     let words: &[&str] = &["mls", "replay", "FILE", "--progress", "--quiet"];
-    let job = job(alloc, words);
+    let request = request(alloc, words);
     let mut said = roomy(alloc)?;
     let mut file = Some(JOIN.as_bytes());
     let mut out = Vec::new(alloc);
     let mut held = Vec::new(alloc);
     let status = serve(
         alloc,
-        &job,
+        &request,
         &mut file,
         &mut out,
         &mut Out::new(&mut held),
