@@ -3,7 +3,6 @@ use Rattle.std.specs.Prelude.{◌≡◌, ◌==◌, ◌++◌, ℕ, if◌then◌el
 use Rattle.mls_suite.specs.Glass.{glass}
 use Rattle.mls_suite_0001.specs.Suite0001.{suite_0001}
 use Rattle.mls_cli_text.specs.Form.{bytes_of_file}
-use Rattle.mls_cli_text.specs.declared.form.Form.{Form}
 use Rattle.mls_cli_text.specs.declared.page.Ending.{Ending}
 use Rattle.mls_cli_text.specs.declared.page.Ending.TheVariants.{Good, Failed, Refused}
 use Rattle.mls_cli_show.specs.Show.{page_of as show_page}

@@ -1,7 +1,6 @@
 -- What a served job leaves.
-use Rattle.std.specs.Prelude.{◌≡◌, ◌≤◌, ◌⊎◌, ◌++◌, ℕ, suc, nat_lt, Bool, true, false, if◌then◌else◌, List, [], length, take, codes, Option, Some, None, Result, Ok, IfSome, OnOk, OnErr, string_bytes}
+use Rattle.std.specs.Prelude.{◌≡◌, ◌≤◌, ◌⊎◌, ℕ, suc, Bool, true, false, List, [], take, Option, Some, None, Result, Ok, IfSome, string_bytes}
 use Rattle.std.specs.Io.KnownBytes.{Appends, Keeps}
-use Rattle.mls_suite.specs.Crypto.{Crypto}
 use Rattle.mls_suite.specs.Glass.{glass}
 use Rattle.mls_cli.specs.declared.tasks.NoJob.{NoJob}
 use Rattle.mls_cli.specs.declared.tasks.NoJob.TheVariants as no_job
@@ -14,18 +13,16 @@ use Rattle.mls_cli_explain.specs.Explain.{told_page}
 use Rattle.mls_cli_explain.specs.Explanations.{Told, explanation_view}
 use Rattle.mls_cli_text.specs.Form.{file_limit}
 use Rattle.mls_cli_text.specs.declared.form.Form.{Form}
-use Rattle.mls_cli_text.specs.Page.{Page, Printout, printout, refused}
+use Rattle.mls_cli_text.specs.Page.{Printout, printout}
 use Rattle.mls_cli_text.specs.Text.{line_text}
 use Rattle.mls_cli_text.specs.declared.fault.Fault.{Fault}
 use Rattle.mls_cli_text.specs.declared.fault.Fault.TheVariants as fault
 use Rattle.mls_cli_show.specs.Show.{page_of as show_page}
 use Rattle.mls_cli_check.specs.Check.{check_page}
 use Rattle.mls_cli_check.specs.Drawing.{draw_page}
-use Rattle.mls_cli_check.specs.Unchecked.{unchecked}
 use Rattle.mls_cli_check.specs.declared.drawing.Drawing.{Drawing}
 use Rattle.mls_cli_check.specs.declared.drawing.TreeSource.{TreeSource}
 use Rattle.mls_cli_draw.specs.Picture.{row_text}
-use Rattle.mls_suite_0001.specs.Suite0001.{suite_0001}
 use Rattle.mls_cli_check.specs.GroupInfo.{group_info_page}
 use Rattle.mls_cli.specs.Layouts.{lines_printout}
 use Rattle.mls_cli.specs.Pages.{checking, crypto_of, file_page}

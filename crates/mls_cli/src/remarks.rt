@@ -1,6 +1,6 @@
 //! What is said of a file's text on the errors, though nothing failed.
 
-ghost use Rattle.std.specs.Prelude.{◌≡◌, IfOk};
+ghost use Rattle.std.specs.Prelude.{◌≡◌, IfOk, true};
 ghost use Rattle.mls_cli.specs.Remarks.{IsRemarkWithPlace, SaysRemark, asks_for_place, job_hint};
 
 use crate::hints::hint;
