@@ -3,16 +3,16 @@ _mls() {
     local word="${COMP_WORDS[COMP_CWORD]}" options=""
     case "${COMP_WORDS[1]}" in
         show)
-            options="--full --raw --json --help"
+            options="--full --raw --json --where --help"
             ;;
         check)
-            options="--suite --group --signatures --group-info --raw --json --draw --width --svg --help"
+            options="--suite --group --signatures --group-info --raw --json --where --draw --width --svg --help"
             ;;
         replay)
-            options="--suite --message --tree --quiet --record --draw --width --svg --progress --help"
+            options="--suite --message --tree --quiet --record --draw --width --svg --progress --where --help"
             ;;
         vectors)
-            options="--help"
+            options="--where --help"
             ;;
     esac
     if [ "$COMP_CWORD" -eq 1 ]; then

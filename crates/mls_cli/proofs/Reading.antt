@@ -1,5 +1,5 @@
 -- What a job reads of a file is enough for what it prints.
-use Rattle.std.proofs.Common.{◌≡◌, ℕ, suc, ◌<◌, ◌≤◌, nat_lt, true, false, List, length, take, Option, Some, None, Result, Ok, Err, IfSome, inl, inr, sym, ◌∙◌, ap, subst, arith}
+use Rattle.std.proofs.Common.{◌≡◌, ℕ, suc, ◌<◌, ◌≤◌, nat_lt, List, length, take, Option, Some, None, Result, Ok, Err, IfSome, inl, inr, sym, ◌∙◌, ap, subst, arith}
 use Rattle.std.proofs.lemmas.Bool.{cases_lt, cond-true, cond-false, lt-ltb, le-ltb}
 use Rattle.std.proofs.lemmas.List.{length-take-le, take_all}
 use Rattle.mls_cli_text.specs.Form.{file_limit}
@@ -17,7 +17,8 @@ use Rattle.mls_cli_draw.specs.Picture.{row_text}
 use Rattle.mls_suite.specs.Glass.{glass}
 use Rattle.mls_cli.specs.declared.tasks.SuiteChoice.TheVariants as choice
 use Rattle.mls_cli.specs.Layouts.{lines_printout}
-use Rattle.mls_cli.specs.Serving.{IsPrintout, checking, file_page, read_of}
+use Rattle.mls_cli.specs.Pages.{checking, file_page}
+use Rattle.mls_cli.specs.Serving.{IsPrintout, read_of}
 
 pub long_page : {E : Type 0} (form : Form) (text : List ℕ) (page : Page E) → file_limit form < length text → file_page form text page ≡ refused 6
 long_page form text page long = cond-true (nat_lt (file_limit form) (length text)) _ _ (lt-ltb (file_limit form) (length text) long)

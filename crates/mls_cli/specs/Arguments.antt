@@ -50,21 +50,28 @@ group_rule = record (new_rule (codes "HEX")) { long = Some (codes "group") }
 abbrev pub json_rule : Rule
 json_rule = flag_rule (codes "json")
 
--- `show`, which takes a FILE and three flags
+-- a flag --where
+abbrev pub where_rule : Rule
+where_rule = flag_rule (codes "where")
+
+-- `show`, which takes a FILE and four flags
 abbrev pub show_app : App
 show_app =
     with_rule
+    (with_rule
     (with_rule (with_rule (file_app (codes "show")) (flag_rule (codes "full"))) (flag_rule (codes "raw")))
-    json_rule
+    json_rule)
+    where_rule
 
 -- a flag --draw, and the options of drawings
 abbrev pub with_draw_rules : App → App
 with_draw_rules app = with_drawing_rules (with_rule app (flag_rule (codes "draw")))
 
--- `check`, which takes a FILE, two options and four flags, and those of drawings
+-- `check`, which takes a FILE, two options and five flags, and those of drawings
 abbrev pub check_app : App
 check_app =
     with_draw_rules
+    (with_rule
     (with_rule
     (with_rule
     (with_rule
@@ -72,12 +79,19 @@ check_app =
     (flag_rule (codes "group-info")))
     (flag_rule (codes "raw")))
     json_rule)
+    where_rule)
 
 -- `replay`, which takes a FILE, a suite and what is asked for
 abbrev pub replay_app : App
 replay_app =
-    with_progress_rule
-    (with_picture_rules (with_view_rules (with_rule (file_app (codes "replay")) suite_rule)))
+    with_rule
+    (with_progress_rule
+    (with_picture_rules (with_view_rules (with_rule (file_app (codes "replay")) suite_rule))))
+    where_rule
+
+-- `vectors`, which takes a FILE and a flag
+abbrev pub vectors_app : App
+vectors_app = with_rule (file_app (codes "vectors")) where_rule
 
 -- with `--version`
 abbrev pub with_version : App → App
@@ -91,7 +105,7 @@ mls = with_version
     (with_subcommand
     (with_subcommand (with_subcommand (new_app (codes "mls")) show_app.top) check_app.top)
     replay_app.top)
-    (file_app (codes "vectors")).top)
+    vectors_app.top)
     explain_rule)
 
 -- the words with the program's name as the first
@@ -258,6 +272,11 @@ abbrev pub task_of : Option (Text × List Row) → Option Task
 task_of found = option_and_then
     (λ p. option_and_then (task_on p.0 p.1) (first_of (codes "FILE") p.1)) found
 
+-- whether it is asked where content is refused
+abbrev pub asks_where : Option (Text × List Row) → Bool
+asks_where None = false
+asks_where (Some found) = is_given (first_of (codes "where") found.1)
+
 abbrev pub file_of : Job → Text
 file_of (Show file form detail layout) = file.now
 file_of (Check file form suite signatures group layout) = file.now
@@ -353,6 +372,10 @@ faults_behind words = fault_of mls (codes "mls" ∷ words)
 abbrev pub task_behind : List Text → Option Task
 task_behind words = task_in (codes "mls" ∷ words)
 
+-- whether these words ask where content is refused
+abbrev pub asks_where_behind : List Text → Bool
+asks_where_behind words = asks_where (found_in (codes "mls" ∷ words))
+
 -- a show, a check and a replay with what stands where no option is given
 abbrev pub plain_show : Text → Task
 plain_show file = show file Hex Brief Lines
@@ -379,6 +402,10 @@ words_of_info_json = codes "check" ∷ codes "a" ∷ codes "--group-info" ∷ co
 
 abbrev pub words_of_drawn_json : List Text
 words_of_drawn_json = codes "check" ∷ codes "--draw" ∷ codes "--json" ∷ codes "a" ∷ []
+
+-- a judging of vectors that asks where a file of them is refused
+abbrev pub words_of_places : List Text
+words_of_places = codes "vectors" ∷ codes "--where" ∷ codes "a" ∷ []
 
 -- a drawing of a tree, and one of a GroupInfo's
 abbrev pub words_of_draw : List Text

@@ -7,5 +7,9 @@ pub mod TreeJobs
 pub mod Hints
 pub mod MemberPicture
 pub mod Layouts
+pub mod Pages
+pub mod Saying
+pub mod Places
+pub mod Remarks
 pub mod Serving
 pub mod Meter

@@ -1,7 +1,6 @@
 -- What a served job leaves.
-use Rattle.std.specs.Prelude.{◌≡◌, ◌≤◌, ◌⊎◌, ◌++◌, ℕ, suc, nat_lt, Bool, true, false, if◌then◌else◌, List, [], length, take, codes, Option, Some, None, Result, Ok, IfSome, OnOk, OnErr, string_bytes}
+use Rattle.std.specs.Prelude.{◌≡◌, ◌≤◌, ◌⊎◌, ℕ, suc, Bool, true, false, List, [], take, Option, Some, None, Result, Ok, IfSome, string_bytes}
 use Rattle.std.specs.Io.KnownBytes.{Appends, Keeps}
-use Rattle.mls_suite.specs.Crypto.{Crypto}
 use Rattle.mls_suite.specs.Glass.{glass}
 use Rattle.mls_cli.specs.declared.tasks.NoJob.{NoJob}
 use Rattle.mls_cli.specs.declared.tasks.NoJob.TheVariants as no_job
@@ -14,21 +13,22 @@ use Rattle.mls_cli_explain.specs.Explain.{told_page}
 use Rattle.mls_cli_explain.specs.Explanations.{Told, explanation_view}
 use Rattle.mls_cli_text.specs.Form.{file_limit}
 use Rattle.mls_cli_text.specs.declared.form.Form.{Form}
-use Rattle.mls_cli_text.specs.Page.{Page, Printout, printout, refused}
+use Rattle.mls_cli_text.specs.Page.{Printout, printout}
 use Rattle.mls_cli_text.specs.Text.{line_text}
 use Rattle.mls_cli_text.specs.declared.fault.Fault.{Fault}
 use Rattle.mls_cli_text.specs.declared.fault.Fault.TheVariants as fault
 use Rattle.mls_cli_show.specs.Show.{page_of as show_page}
 use Rattle.mls_cli_check.specs.Check.{check_page}
 use Rattle.mls_cli_check.specs.Drawing.{draw_page}
-use Rattle.mls_cli_check.specs.Unchecked.{unchecked}
 use Rattle.mls_cli_check.specs.declared.drawing.Drawing.{Drawing}
 use Rattle.mls_cli_check.specs.declared.drawing.TreeSource.{TreeSource}
 use Rattle.mls_cli_draw.specs.Picture.{row_text}
-use Rattle.mls_suite_0001.specs.Suite0001.{suite_0001}
 use Rattle.mls_cli_check.specs.GroupInfo.{group_info_page}
-use Rattle.mls_cli.specs.Hints.{hint}
 use Rattle.mls_cli.specs.Layouts.{lines_printout}
+use Rattle.mls_cli.specs.Pages.{checking, crypto_of, file_page}
+use Rattle.mls_cli.specs.Remarks.{SaysRemark, asks_for_place}
+use Rattle.mls_cli.specs.Saying.{SaysOrFails, fault_text, out_of_memory}
+use Rattle.mls_cli.specs.declared.tasks.Request.{Request}
 use Rattle.mls_cli_vectors.specs.VectorsReport.{entry_text, vectors_page}
 use Rattle.mls_cli_text.specs.declared.output.Out.{Out}
 use Rattle.mls_cli.specs.MemberPicture.{IsMemberPicture}
@@ -36,21 +36,6 @@ use Rattle.mls_cli_replay.specs.Progress.{ReportsFile}
 use Rattle.mls_cli_replay.specs.Replay.{PrintsOne}
 use Rattle.mls_cli_replay.specs.Views.{IsView}
 use Rattle.mls_cli_replay.specs.declared.view.ReplayView.{ReplayView}
-
--- the suite of a group
-abbrev pub crypto_of : SuiteChoice → Crypto
-crypto_of choice.Glass = glass
-crypto_of choice.Suite0001 = suite_0001
-
--- by which suite a tree is checked: signatures under suite 0001 are checked only where that is asked for
-abbrev pub checking : SuiteChoice → Bool → Crypto
-checking choice.Glass signatures = glass
-checking choice.Suite0001 true = suite_0001
-checking choice.Suite0001 false = unchecked
-
--- what is printed of a file whose page is this: the refusal `TooLong` (6) alone, where its text is too long
-abbrev pub file_page : {E : Type 0} → Form → List ℕ → Page E → Page E
-file_page form text page = if nat_lt (file_limit form) (length text) then refused 6 else page
 
 -- what is printed of the drawing of a file of this text
 abbrev pub drawing_printout : Form → TreeSource → Drawing → List ℕ → Printout
@@ -74,40 +59,12 @@ IsPrintout (job.DrawMember file suite member drawing progress) text p =
     IsMemberPicture (crypto_of suite) member drawing text p
 IsPrintout (job.Vectors file) text p = p ≡ printout entry_text (vectors_page text)
 
--- what is said on the errors of a file's text, though nothing failed
-abbrev pub remark : Job → List ℕ → List ℕ
-remark (job.Show file form detail layout) text = hint form text
-remark (job.Check file form suite signatures group layout) text = hint form text
-remark (job.CheckGroupInfo file form signatures layout) text = hint form text
-remark (job.Draw file form source drawing) text = hint form text
-remark (job.Replay file suite view progress) text = []
-remark (job.DrawMember file suite member drawing progress) text = []
-remark (job.Vectors file) text = []
-
 -- the output grows by the text of such a printout, with its status; or the status is 3, and it grows by less than such a
 -- text or stays as it was
 abbrev pub PrintsOrFails : (Printout → Type 0) → Option (List ℕ) → Option (List ℕ) → ℕ → Type 0
 PrintsOrFails Is old new status =
     ((p : Printout) × Is p × Appends old new p.text × (status ≡ p.status))
     ⊎ ((status ≡ 3) × (Keeps old new ⊎ ((p : Printout) × Is p × AppendsPart old new p.text)))
-
--- ---- what is said on the errors
-
-abbrev pub unreadable : List ℕ → List ℕ
-unreadable file = codes "mls: cannot read " ++ (file ++ codes "\n")
-
-abbrev pub out_of_memory : List ℕ
-out_of_memory = codes "mls: out of memory\n"
-
--- what is said of a fault while a file is read and printed; of a write that failed nothing
-abbrev pub fault_text : List ℕ → Fault → List ℕ
-fault_text file fault.OutOfMemory = out_of_memory
-fault_text file fault.Read = unreadable file
-fault_text file fault.Write = []
-
--- the errors grow by the text, or they have failed, and grow by less than that
-abbrev pub SaysOrFails : Option (List ℕ) → Option (List ℕ) → Bool → List ℕ → Type 0
-SaysOrFails old new failed text = Appends old new text ⊎ ((failed ≡ true) × AppendsPart old new text)
 
 -- ---- what a fault comes of
 
@@ -202,28 +159,17 @@ PrintsRecording contents suite view text old new result = PrintsOne (IsView (cry
 abbrev pub KeepsUnread : {I O : Type 0} → (I → Bool) → (O → Option (List ℕ)) → Option I → O → O → Type 0
 KeepsUnread failed contents file old new = unread failed file ≡ true → Keeps (contents old) (contents new)
 
--- the errors grow by the text, or they have failed, and grow by less than that
-abbrev pub Says : {E : Type 0} → (E → Option (List ℕ)) → Out E → Out E → List ℕ → Type 0
-Says contents old new text = SaysOrFails (contents (out_writer old)) (contents (out_writer new)) (out_failed new) text
+-- what is remarked of all that a reader has left, where it ends with this status, is said, and no more
+abbrev pub Remarks : {I E : Type 0} → (I → Option (List ℕ)) → (E → Option (List ℕ)) → Request → I
+    → ℕ → Out E → Out E → Type 0
+Remarks remaining contents r reader status old new =
+    (text : List ℕ) × ReadsFile remaining r.job reader text
+    × SaysRemark contents (asks_for_place r status) r.job text old new
 
--- Where it succeeds, a call writes the text to the errors.
-abbrev pub WritesError : {E T X : Type 0} → (E → Option (List ℕ)) → Out E → Out E → List ℕ → Result T X → Type 0
-WritesError contents old new text result = OnOk result (Appends (contents (out_writer old)) (contents (out_writer new)) text)
-
--- Where it fails, a call writes a beginning of the text to the errors, and not the whole.
-abbrev pub BeginsError : {E T X : Type 0} → (E → Option (List ℕ)) → Out E → Out E → List ℕ → Result T X → Type 0
-BeginsError contents old new text result = OnErr result (AppendsPart (contents (out_writer old)) (contents (out_writer new)) text)
-
--- what a job remarks of all that a reader has left is said, and no more
-abbrev pub Remarks : {I E : Type 0} → (I → Option (List ℕ)) → (E → Option (List ℕ)) → Job → I
-    → Out E → Out E → Type 0
-Remarks remaining contents j reader old new =
-    (text : List ℕ) × ReadsFile remaining j reader text × Says contents old new (remark j text)
-
-abbrev pub RemarksOn : {I E : Type 0} → (I → Option (List ℕ)) → (E → Option (List ℕ)) → Job
-    → Option I → Out E → Out E → Type 0
-RemarksOn {I} remaining contents j file old new =
-    IfSome file (λ (reader : I). Remarks remaining contents j reader old new)
+abbrev pub RemarksOn : {I E : Type 0} → (I → Option (List ℕ)) → (E → Option (List ℕ)) → Request
+    → Option I → ℕ → Out E → Out E → Type 0
+RemarksOn {I} remaining contents r file status old new =
+    IfSome file (λ (reader : I). Remarks remaining contents r reader status old new)
 
 -- a job's end, with what the errors hold
 abbrev pub EndsWith : {E : Type 0} → (E → Option (List ℕ)) → Out E → Out E → Type 0 → List ℕ → ℕ

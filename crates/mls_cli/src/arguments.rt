@@ -3,7 +3,7 @@
 ghost use Rattle.std.specs.Prelude.{◌≡◌, map, true, false, codes, Ok, Err, Some, None, IfOk, IfErr, IsSome, OnOk, ◌⊎◌, ◌∷◌, [], option_and_then, option_map};
 ghost use Rattle.clap.specs.Words.{app_of, shape_of, first_of, found_of, kind_of, matches_of, rows_of, rule_of, subcommand_of, subcommand_rows_of, takes, fault_of, FailsBy, HasKind};
 ghost use Rattle.clap.specs.declared.Command.TheViews.{out-Command as fields_of};
-ghost use Rattle.mls_cli.specs.Arguments.{ComesOf, ExplainsWords, check, check_group_info, draw, draw_member, drawing_on, draws_json, faults_behind, found_in, found_rows, given, maybe_task, mls, plain_check, plain_replay, plain_show, recording_task, replay, replay_on, show, task_behind, task_in, task_of, task_on, task_view, vectors, view_on, with_version, words_of_check, words_of_draw, words_of_draw_info, words_of_drawn_json, words_of_info, words_of_info_json, words_of_no_drawing, words_of_no_number, words_of_picture, words_of_picture_and_message, words_of_progress, words_of_quiet, words_of_record, words_of_replay, words_of_shown_json, words_of_svg, words_of_svg_width, words_of_tree, words_of_two_views};
+ghost use Rattle.mls_cli.specs.Arguments.{asks_where, asks_where_behind, ComesOf, ExplainsWords, check, check_group_info, draw, draw_member, drawing_on, draws_json, faults_behind, found_in, found_rows, given, maybe_task, mls, plain_check, plain_replay, plain_show, recording_task, replay, replay_on, show, task_behind, task_in, task_of, task_on, task_view, vectors, view_on, with_version, words_of_check, words_of_draw, words_of_draw_info, words_of_drawn_json, words_of_info, words_of_info_json, words_of_no_drawing, words_of_no_number, words_of_picture, words_of_places, words_of_picture_and_message, words_of_progress, words_of_quiet, words_of_record, words_of_replay, words_of_shown_json, words_of_svg, words_of_svg_width, words_of_tree, words_of_two_views};
 ghost use Rattle.mls_cli.specs.ExplainArguments.{unless_asked};
 ghost use Rattle.mls_cli.specs.Options.{number_in};
 ghost use Rattle.mls_cli.specs.TreeJobs.{tree_check_on, tree_job_on};
@@ -11,10 +11,11 @@ ghost use Rattle.mls_cli.specs.TreeJobs.{tree_check_on, tree_job_on};
 use crate::check_options::{check_command, check_on, drawn_if, undrawn, without_json};
 use crate::drawing_options::drawing_by;
 use crate::explain_arguments::{explain_arg, without_job};
-use crate::options::{file_command, is_given, layout_of, number_in, suite_of};
+use crate::options::{is_given, layout_of, number_in, suite_of};
 use crate::replay_arguments::{progress_by, replay_command, view_by};
 use crate::show_options::{show_command, show_on};
-use crate::tasks::{Job, Layout, NoJob, ProgressChoice, SuiteChoice};
+use crate::tasks::{Job, Layout, NoJob, ProgressChoice, Request, SuiteChoice};
+use crate::vectors_options::vectors_command;
 use clap::error::ErrorKind;
 use clap::{ArgMatches, Command, Error};
 use mls_cli_check::{Drawing, TreeSource};
@@ -49,13 +50,7 @@ pub fn command<'a>(alloc: Global) -> Result<Command<'a>, AllocError>
     let show = show_command(alloc)?;
     let check = check_command(alloc)?;
     let replay = replay_command(alloc)?;
-    let vectors = file_command(
-        alloc,
-        "vectors",
-        "Judges test vectors",
-        "A JSON array of vectors, or - for the standard input",
-        "Example:\n  mls vectors examples/vectors.json",
-    )?;
+    let vectors = vectors_command(alloc)?;
     let first = Command::new(alloc, "mls").subcommand(show)?;
     let second = first.subcommand(check)?;
     let third = second.subcommand(replay)?;
@@ -210,10 +205,12 @@ fn job_on<'a>(name: &str, matches: &ArgMatches<'a>, file: &'a str) -> Option<Job
     }
 }
 
-/// The job that the words name, the program's own name first.
-pub fn job<'a, S: AsStr>(alloc: Global, words: &'a [S]) -> Result<Job<'a>, NoJob>
-    // It is the subcommand and the FILE of clap's matches.
-    ensures named { IfOk result (λ j. task_in (map S.text words.entry.now) ≡ Some (task_view j)) }
+/// What the words ask for, the program's own name first.
+pub fn request<'a, S: AsStr>(alloc: Global, words: &'a [S]) -> Result<Request<'a>, NoJob>
+    // The job is the subcommand and the FILE of clap's matches.
+    ensures named { IfOk result (λ r. task_in (map S.text words.entry.now) ≡ Some (task_view r.job)) }
+    ensures asked { IfOk result (λ r.
+        r.asks_where ≡ asks_where (found_in (map S.text words.entry.now))) }
     // It comes only where clap finds no fault in the words.
     ensures faultless { OnOk result (fault_of mls (map S.text words.entry.now) ≡ []) }
     // Where clap finds a fault, it is of a kind that the words have, unless memory runs out. Where it finds
@@ -222,7 +219,10 @@ pub fn job<'a, S: AsStr>(alloc: Global, words: &'a [S]) -> Result<Job<'a>, NoJob
 {
     match parse_words(alloc, words) {
         Ok(matches) => match job_in(&matches) {
-            Some(job) => Ok(job),
+            Some(job) => Ok(Request {
+                job,
+                asks_where: asks_where(&matches),
+            }),
             None => Err(without_job(alloc, &matches)),
         },
         Err(error) => Err(no_job(alloc, &error)),
@@ -394,6 +394,16 @@ pub fn matched_subcommand<'a, 'b>(
     matches.subcommand()
 }
 
+/// Whether it is asked where content is refused.
+fn asks_where(matches: &ArgMatches<'_>) -> bool
+    ensures { result ≡ asks_where (subcommand_rows_of matches.now) }
+{
+    match matched_subcommand(matches) {
+        Some((_, inner)) => is_given(value_of(inner, "where")),
+        None => false,
+    }
+}
+
 /// The job that the matches stand for: none where a refusal is asked for.
 fn job_in<'a>(matches: &ArgMatches<'a>) -> Option<Job<'a>>
     ensures { maybe_task result ≡ unless_asked (first_of (codes "REFUSAL") (rows_of (found_of matches.now)))
@@ -433,6 +443,8 @@ pub fn examples()
     ensures info_json { task_behind words_of_info_json
         ≡ Some (check_group_info (codes "a") Form.Hex false Layout.Json) }
     ensures drawn_json { task_behind words_of_drawn_json ≡ None }
+    ensures places { asks_where_behind words_of_places ≡ true }
+    ensures no_places { asks_where_behind words_of_check ≡ false }
     ensures draws { task_behind words_of_draw
         ≡ Some (draw (codes "a") Form.Hex TreeSource.Tree (Drawing.Text None)) }
     ensures draws_info { task_behind words_of_draw_info

@@ -6,7 +6,7 @@ ghost use Rattle.clap.specs.declared.Command.TheViews.{out-Command as fields_of}
 ghost use Rattle.mls_cli.specs.Arguments.{check_app, check_on, drawn, drawn_if, given, group_rule, maybe_task, task_view, tree_task, undrawn, with_draw_rules, without_json};
 
 use crate::drawing_options::{is_plain, with_drawing_options};
-use crate::options::{file_command, flag_arg, is_given, json_arg, suite_arg, suite_of};
+use crate::options::{file_command, flag_arg, is_given, json_arg, suite_arg, suite_of, where_arg};
 use crate::show_options::form_of;
 use crate::tasks::{Job, Layout, SuiteChoice};
 use clap::{Arg, Command};
@@ -52,7 +52,8 @@ pub fn check_command<'a>(alloc: Global) -> Result<Command<'a>, AllocError>
     let raw = flag_arg(alloc, "raw", "Reads bytes as they are, and not hex");
     let with_raw = with_info.arg(raw)?;
     let with_json = with_raw.arg(json_arg(alloc))?;
-    with_draw(alloc, with_json)
+    let with_where = with_json.arg(where_arg(alloc))?;
+    with_draw(alloc, with_where)
 }
 
 /// The command with a flag to draw, and the options of drawings.

@@ -13,15 +13,18 @@ mod hints;
 mod member_picture;
 mod meter;
 mod options;
+mod places;
 mod printing;
+mod remarks;
 mod replay_arguments;
 mod saying;
 mod serving;
 mod show_options;
 mod source;
 mod tasks;
+mod vectors_options;
 
-use arguments::{job, no_text};
+use arguments::{no_text, request};
 use meter::{Meter, Pace, pace_of};
 use mls_cli_replay::Silent;
 use mls_cli_text::{In, Out};
@@ -31,7 +34,7 @@ use std::alloc::{AllocError, Global};
 use std::fs::File;
 use std::io::{ErrorKind, IsTerminal, Stderr};
 use std::process::ExitCode;
-use tasks::{Job, NoJob};
+use tasks::{NoJob, Request};
 
 fn main(rt: HostRuntime) -> ExitCode {
     ExitCode::from(run(&rt))
@@ -76,11 +79,11 @@ fn open_source(rt: &HostRuntime, path: &str) -> Option<In<Source>>
 }
 
 /// What the job reads, if there is a job and its file can be opened.
-fn open_file_of(rt: &HostRuntime, job: &Result<Job<'_>, NoJob>) -> Option<In<Source>>
+fn open_file_of(rt: &HostRuntime, request: &Result<Request<'_>, NoJob>) -> Option<In<Source>>
     ensures { IfSome result (λ source. in_failed source ≡ false) }
 {
-    match job {
-        Ok(job) => open_source(rt, job.file()),
+    match request {
+        Ok(request) => open_source(rt, request.job.file()),
         Err(_) => None,
     }
 }
@@ -88,11 +91,11 @@ fn open_file_of(rt: &HostRuntime, job: &Result<Job<'_>, NoJob>) -> Option<In<Sou
 /// What says on the errors how far the job is.
 fn meter_of<'a>(
     rt: &'a HostRuntime,
-    job: &Result<Job<'_>, NoJob>,
+    request: &Result<Request<'_>, NoJob>,
 ) -> Meter<'a, HostRuntime, Stderr> {
     let errors = rt.stderr();
-    let pace = match job {
-        Ok(job) => pace_of(job.progress(), errors.is_terminal()),
+    let pace = match request {
+        Ok(request) => pace_of(request.job.progress(), errors.is_terminal()),
         Err(_) => Pace::Never,
     };
     Meter::new(errors, rt, pace)
@@ -105,10 +108,17 @@ fn run(rt: &HostRuntime) -> u8 {
     let mut err = Out::new(rt.stderr());
     match words_in(rt) {
         Ok(words) => {
-            let job = job(alloc, words.as_slice());
-            let mut file = open_file_of(rt, &job);
-            let mut progress = meter_of(rt, &job);
-            serve(alloc, &job, &mut file, &mut out, &mut err, &mut progress)
+            let request = request(alloc, words.as_slice());
+            let mut file = open_file_of(rt, &request);
+            let mut progress = meter_of(rt, &request);
+            serve(
+                alloc,
+                &request,
+                &mut file,
+                &mut out,
+                &mut err,
+                &mut progress,
+            )
         }
         Err(no_job) => {
             let mut none: Option<In<Source>> = None;

@@ -3,7 +3,7 @@
 ghost use Rattle.std.specs.Prelude.{◌≡◌, false, IfOk};
 ghost use Rattle.clap.specs.Words.{app_of, rule_of};
 ghost use Rattle.clap.specs.declared.Command.TheViews.{out-Command as fields_of};
-ghost use Rattle.mls_cli.specs.Arguments.{file_app, file_rule, given, is_given, json_rule, layout_of, suite_of, suite_rule};
+ghost use Rattle.mls_cli.specs.Arguments.{file_app, file_rule, given, is_given, json_rule, layout_of, suite_of, suite_rule, where_rule};
 ghost use Rattle.mls_cli.specs.Options.{flag_rule, number_in, number_rule};
 
 use crate::tasks::{Layout, SuiteChoice};
@@ -63,6 +63,18 @@ pub fn json_arg<'a>(alloc: Global) -> Arg<'a>
     ensures local { result.global ≡ false }
 {
     flag_arg(alloc, "json", "Prints one JSON object in place of lines")
+}
+
+/// The flag that asks where content is refused.
+pub fn where_arg<'a>(alloc: Global) -> Arg<'a>
+    ensures rule { rule_of result ≡ where_rule }
+    ensures local { result.global ≡ false }
+{
+    flag_arg(
+        alloc,
+        "where",
+        "Says on standard error where content is refused",
+    )
 }
 
 /// An option with a number, with what help says of it.

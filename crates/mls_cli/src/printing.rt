@@ -11,7 +11,8 @@ ghost use Rattle.mls_cli_draw.specs.Picture.{DrawsPage};
 ghost use Rattle.mls_cli_replay.specs.Progress.{ReportsFile};
 ghost use Rattle.mls_suite.specs.Glass.{glass};
 ghost use Rattle.mls_cli.specs.Layouts.{MakesObject, PrintsLines};
-ghost use Rattle.mls_cli.specs.Serving.{PrintsPicture, PrintsRecording, PrintsText, ReportsJob, checking, crypto_of, drawing_printout, file_page};
+ghost use Rattle.mls_cli.specs.Pages.{checking, crypto_of, file_page};
+ghost use Rattle.mls_cli.specs.Serving.{PrintsPicture, PrintsRecording, PrintsText, ReportsJob, drawing_printout};
 
 use crate::member_picture::print_member;
 use crate::tasks::{Job, Layout, SuiteChoice};
@@ -120,7 +121,7 @@ fn print_in_layout<O: Output>(
 }
 
 /// What is printed of a message's file: `TooLong` (6) alone where its text is too long.
-fn show_file(
+pub fn show_file(
     alloc: Global,
     detail: Detail,
     form: Form,
@@ -136,7 +137,7 @@ fn show_file(
 }
 
 /// What is printed of a tree's file under the chosen suite: `TooLong` (6) alone where its text is too long.
-fn tree_file(
+pub fn tree_file(
     alloc: Global,
     form: Form,
     suite: SuiteChoice,
@@ -178,7 +179,7 @@ fn check_file(
 }
 
 /// What is printed of a GroupInfo's file: `TooLong` (6) alone where its text is too long.
-fn info_file(
+pub fn info_file(
     alloc: Global,
     form: Form,
     signatures: bool,
@@ -212,7 +213,7 @@ fn check_info(
 }
 
 /// The drawing of the tree of a file: `TooLong` (6) alone where its text is too long.
-fn drawing_file(
+pub fn drawing_file(
     alloc: Global,
     form: Form,
     source: TreeSource,

@@ -7,7 +7,7 @@ ghost use Rattle.mls_cli.specs.Arguments.{replay_app};
 ghost use Rattle.mls_cli.specs.ReplayArguments.{progress_by, unless, view_by, view_by_flags, view_by_tree, with_picture_rules};
 
 use crate::drawing_options::with_drawing_options;
-use crate::options::{file_command, flag_arg, number_arg, suite_arg};
+use crate::options::{file_command, flag_arg, number_arg, suite_arg, where_arg};
 use crate::tasks::ProgressChoice;
 use clap::Command;
 use mls_cli_replay::ReplayView;
@@ -54,7 +54,8 @@ pub fn replay_command<'a>(alloc: Global) -> Result<Command<'a>, AllocError>
         "Says on standard error at each hundredth how many events are done",
     );
     let with_all = with_picture(alloc, with_record)?;
-    with_all.arg(progress)
+    let with_progress = with_all.arg(progress)?;
+    with_progress.arg(where_arg(alloc))
 }
 
 /// The command with the options of a member's picture.

@@ -2,16 +2,16 @@
 
 ghost use Rattle.std.specs.Prelude.{◌≡◌, IfErr};
 ghost use Rattle.mls_cli_text.specs.InputOutput.{out_failed, write_failed};
-ghost use Rattle.mls_cli.specs.Serving.{BeginsError, Says, WritesError, fault_text, out_of_memory as memory_text, unreadable};
+ghost use Rattle.mls_cli.specs.Saying.{BeginsError, Says, WritesError, fault_text, out_of_memory as memory_text, unreadable};
 
 use mls_cli_text::{Fault, Out, Output};
 use std::io::Write;
 
 /// Says a text on the errors.
-pub fn say<E: Write>(text: &str, err: &mut Out<E>)
+pub fn say<E: Write>(text: &[u8], err: &mut Out<E>)
     ensures { Says E.contents err.old err.new text.now }
 {
-    let _ = err.put(text.as_bytes());
+    let _ = err.put(text);
 }
 
 /// Says why the program stopped.

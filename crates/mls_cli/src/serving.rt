@@ -5,12 +5,12 @@ ghost use Rattle.std.specs.Io.KnownBytes.{Keeps};
 ghost use Rattle.mls_cli_text.specs.InputOutput.{out_failed, out_writer, read_failed, write_failed};
 ghost use Rattle.mls_cli_explain.specs.Explanations.{explanation_view};
 ghost use Rattle.mls_cli.specs.Arguments.{file_of};
-ghost use Rattle.mls_cli.specs.Serving.{EndsWith, EndsWithoutJob, KeepsUnread, PrintsFile, PrintsRead, ReadsFile, ReportsOn, ReportsRead, Remarks, RemarksOn, ShowsHelp, ShowsTold, remark, unread};
+ghost use Rattle.mls_cli.specs.Serving.{EndsWith, EndsWithoutJob, KeepsUnread, PrintsFile, PrintsRead, ReadsFile, ReportsOn, ReportsRead, Remarks, RemarksOn, ShowsHelp, ShowsTold, unread};
 
-use crate::hints::hint;
 use crate::printing::print_text;
-use crate::saying::{say, say_fault, say_out_of_memory};
-use crate::tasks::{Job, NoJob};
+use crate::remarks::say_remark;
+use crate::saying::{say_fault, say_out_of_memory};
+use crate::tasks::{Job, NoJob, Request};
 use mls_cli_explain::{Explanation, told_page};
 use mls_cli_replay::Progress;
 use mls_cli_text::{Fault, Input, Out, Output, print_made_page};
@@ -21,7 +21,7 @@ use std::io::Write;
 /// 2 usage, 3 a fault of the file, the output or memory. The file is None where it can't be opened.
 pub fn serve<I: Input, O: Output, E: Write, P: Progress>(
     alloc: Global,
-    job: &Result<Job<'_>, NoJob>,
+    request: &Result<Request<'_>, NoJob>,
     file: &mut Option<I>,
     out: &mut O,
     err: &mut Out<E>,
@@ -30,32 +30,34 @@ pub fn serve<I: Input, O: Output, E: Write, P: Progress>(
     requires fresh_file { IfSome file.old (λ reader. I.failed reader ≡ false) }
     requires fresh_out { O.failed out.old ≡ false }
     // The output grows by what the job prints for the text that the reader had.
-    ensures prints { IfOk job.now (λ j.
-        PrintsFile I.remaining O.contents j file.old out.old out.new result) }
-    // Either nothing failed and no more is said than a hint, or the status is 3 and what failed is said.
-    ensures ends { IfOk job.now (λ j. EndsWith E.contents err.old err.new
-        (RemarksOn I.remaining E.contents j file.old err.old err.new) (file_of j) result
+    ensures prints { IfOk request.now (λ r.
+        PrintsFile I.remaining O.contents r.job file.old out.old out.new result) }
+    // Either nothing failed and no more is said than a hint and, where that is asked for, the place
+    // of a refusal; or the status is 3 and what failed is said.
+    ensures ends { IfOk request.now (λ r. EndsWith E.contents err.old err.new
+        (RemarksOn I.remaining E.contents r file.old result err.old err.new) (file_of r.job) result
         (unread I.failed file.new) (O.failed out.new)) }
     // A file that can't be read leaves the output as it was.
-    ensures unread { IfOk job.now (λ _. KeepsUnread I.failed O.contents file.new out.old out.new) }
+    ensures unread { IfOk request.now (λ _.
+        KeepsUnread I.failed O.contents file.new out.old out.new) }
     // Each event of a replay is reported, in order.
-    ensures reports { IfOk job.now (λ j.
-        ReportsOn I.remaining P.reports j file.old progress.old progress.new result) }
+    ensures reports { IfOk request.now (λ r.
+        ReportsOn I.remaining P.reports r.job file.old progress.old progress.new result) }
     // Without a job help or the version is written, or a mistake or want of memory said.
-    ensures unasked { IfErr job.now (λ e.
+    ensures unasked { IfErr request.now (λ e.
         EndsWithoutJob e result (O.contents out.old) (O.contents out.new) (O.failed out.new)
         (E.contents (out_writer err.old)) (E.contents (out_writer err.new)) (out_failed err.new)) }
     ensures same { is_some file.new ≡ is_some file.old }
 {
-    match job {
-        Ok(job) => serve_job(alloc, job, file, out, err, progress),
+    match request {
+        Ok(request) => serve_request(alloc, request, file, out, err, progress),
         Err(no_job) => answer_without_job(alloc, no_job, out, err),
     }
 }
 
-fn serve_job<I: Input, O: Output, E: Write, P: Progress>(
+fn serve_request<I: Input, O: Output, E: Write, P: Progress>(
     alloc: Global,
-    job: &Job<'_>,
+    request: &Request<'_>,
     file: &mut Option<I>,
     out: &mut O,
     err: &mut Out<E>,
@@ -63,24 +65,25 @@ fn serve_job<I: Input, O: Output, E: Write, P: Progress>(
 ) -> u8
     requires fresh_file { IfSome file.old (λ reader. I.failed reader ≡ false) }
     requires fresh_out { O.failed out.old ≡ false }
-    ensures prints { PrintsFile I.remaining O.contents job.now file.old out.old out.new result }
+    ensures prints { PrintsFile I.remaining O.contents request.now.job file.old
+        out.old out.new result }
     ensures ends { EndsWith E.contents err.old err.new
-        (RemarksOn I.remaining E.contents job.now file.old err.old err.new) (file_of job.now) result
-        (unread I.failed file.new) (O.failed out.new) }
+        (RemarksOn I.remaining E.contents request.now file.old result err.old err.new)
+        (file_of request.now.job) result (unread I.failed file.new) (O.failed out.new) }
     ensures unread { KeepsUnread I.failed O.contents file.new out.old out.new }
-    ensures reports { ReportsOn I.remaining P.reports job.now file.old progress.old progress.new
-        result }
+    ensures reports { ReportsOn I.remaining P.reports request.now.job file.old
+        progress.old progress.new result }
     ensures same { is_some file.new ≡ is_some file.old }
 {
     match file {
         None => {
-            say_fault(Fault::Read, job.file(), err);
+            say_fault(Fault::Read, request.job.file(), err);
             3
         }
-        Some(reader) => match print_job(alloc, job, reader, out, err, progress) {
+        Some(reader) => match print_request(alloc, request, reader, out, err, progress) {
             Ok(status) => status,
             Err(fault) => {
-                say_fault(fault, job.file(), err);
+                say_fault(fault, request.job.file(), err);
                 3
             }
         },
@@ -88,45 +91,34 @@ fn serve_job<I: Input, O: Output, E: Write, P: Progress>(
 }
 
 /// Prints what the job asks for, says what is remarked of the file, and answers the exit status.
-fn print_job<I: Input, O: Output, E: Write, P: Progress>(
+fn print_request<I: Input, O: Output, E: Write, P: Progress>(
     alloc: Global,
-    job: &Job<'_>,
+    request: &Request<'_>,
     file: &mut I,
     out: &mut O,
     err: &mut Out<E>,
     progress: &mut P,
 ) -> Result<u8, Fault>
-    ensures prints { PrintsRead I.remaining O.contents job.now file.old out.old out.new result }
+    ensures prints { PrintsRead I.remaining O.contents request.now.job file.old
+        out.old out.new result }
     ensures status { IfOk result (λ status. status ≤ 1) }
     // A fault of the output comes just where a write has failed, and one of the file where a read has.
     ensures write { O.failed out.new ≡ write_failed (O.failed out.old) result }
     ensures read { I.failed file.new ≡ read_failed (I.failed file.old) result }
     ensures unread { result ≡ Err Fault.Read → Keeps (O.contents out.old) (O.contents out.new) }
-    ensures said { OnOk result (Remarks I.remaining E.contents job.now file.old err.old err.new) }
+    ensures said { IfOk result (λ status.
+        Remarks I.remaining E.contents request.now file.old status err.old err.new) }
     ensures silent { OnErr result (err.new ≡ err.old) }
-    ensures reports { IfOk result (ReportsRead I.remaining P.reports job.now file.old
+    ensures reports { IfOk result (ReportsRead I.remaining P.reports request.now.job file.old
         progress.old progress.new) }
 {
-    let text = read_file(alloc, job, file)?;
-    match print_text(alloc, job, text.as_slice(), out, progress) {
+    let text = read_file(alloc, &request.job, file)?;
+    match print_text(alloc, &request.job, text.as_slice(), out, progress) {
         Ok(status) => {
-            say(remark(job, text.as_slice()), err);
+            say_remark(alloc, request, status, text.as_slice(), err);
             Ok(status)
         }
         Err(fault) => Err(fault),
-    }
-}
-
-/// What is said of a file's text, though nothing failed.
-fn remark(job: &Job<'_>, text: &[u8]) -> &'static str
-    ensures { result.now ≡ remark job.now text.now }
-{
-    match job {
-        Job::Show { form, .. }
-        | Job::Check { form, .. }
-        | Job::CheckGroupInfo { form, .. }
-        | Job::Draw { form, .. } => hint(*form, text),
-        Job::Replay { .. } | Job::DrawMember { .. } | Job::Vectors { .. } => "",
     }
 }
 

@@ -150,6 +150,15 @@ impl<'a> Job<'a> {
     }
 }
 
+/// A job, and what is asked for besides.
+#[derive(Clone, Copy, Debug)]
+pub struct Request<'a> {
+    /// The job.
+    pub job: Job<'a>,
+    /// Whether it is said on the errors where content is refused.
+    pub asks_where: bool,
+}
+
 /// Why the words of the command line name no job.
 #[derive(Debug, Drop)]
 pub enum NoJob {

@@ -6,6 +6,7 @@ mod ends;
 mod extensions;
 mod json;
 mod options;
+mod places;
 mod progress;
 mod replay;
 mod rows;
@@ -17,9 +18,9 @@ mod views;
 
 ghost use Rattle.std.specs.Prelude.{Some};
 
-use crate::arguments::{job, no_text};
+use crate::arguments::{no_text, request};
 use crate::serving::serve;
-use crate::tasks::{Job, NoJob};
+use crate::tasks::{NoJob, Request};
 use crate::tests::vectors::repeat_text;
 use mls_cli_replay::Silent;
 use mls_cli_text::{In, Out};
@@ -44,16 +45,16 @@ const HELP: &str =
     "Shows and checks messages of Messaging Layer Security (RFC 9420)\n\nUsage: mls <COMMAND>\n       mls --explain <REFUSAL>\n\nCommands:\n  show     Prints a message field by field\n  check    Checks a ratchet tree\n  replay   Replays a recording of groups\n  vectors  Judges test vectors\n  help     Print this message or the help of the given subcommand(s)\n\nOptions:\n      --explain <REFUSAL>  Tells what a refusal is, by its number or name\n  -h, --help               Print help\n  -V, --version            Print version\n\nExit status:\n  0  the content is good\n  1  it is refused, or vectors or expectations fail\n  2  the command line is wrong\n  3  a file, the output or memory failed\n";
 
 const SHOW_HELP: &str =
-    "Prints a message field by field\n\nUsage: mls show [OPTIONS] <FILE>\n\nArguments:\n  <FILE>  An MLSMessage in hex, or - for the standard input\n\nOptions:\n      --full  Prints each item of a commit, a Welcome and a tree too\n      --raw   Reads bytes as they are, and not hex\n      --json  Prints one JSON object in place of lines\n  -h, --help  Print help\n\nExample:\n  mls show examples/key_package.hex\n";
+    "Prints a message field by field\n\nUsage: mls show [OPTIONS] <FILE>\n\nArguments:\n  <FILE>  An MLSMessage in hex, or - for the standard input\n\nOptions:\n      --full   Prints each item of a commit, a Welcome and a tree too\n      --raw    Reads bytes as they are, and not hex\n      --json   Prints one JSON object in place of lines\n      --where  Says on standard error where content is refused\n  -h, --help   Print help\n\nExample:\n  mls show examples/key_package.hex\n";
 
 const CHECK_HELP: &str =
-    "Checks a ratchet tree\n\nUsage: mls check [OPTIONS] <FILE>\n\nArguments:\n  <FILE>  A ratchet tree in hex, or - for the standard input\n\nOptions:\n      --suite <SUITE>  The group's cipher suite, f001 or 0001 [default: f001]\n      --group <HEX>    The group's id, empty by default\n      --signatures     Checks signatures and keys under suite 0001 too\n      --group-info     Checks a GroupInfo message, which has suite, id and tree\n      --raw            Reads bytes as they are, and not hex\n      --json           Prints one JSON object in place of lines\n      --draw           Draws the tree, and checks nothing of it\n      --width <WIDTH>  Cuts each row of a drawing to so many columns\n      --svg            Makes a drawing an SVG file\n  -h, --help           Print help\n\nExample:\n  mls check examples/group_tree.hex --group 67\n";
+    "Checks a ratchet tree\n\nUsage: mls check [OPTIONS] <FILE>\n\nArguments:\n  <FILE>  A ratchet tree in hex, or - for the standard input\n\nOptions:\n      --suite <SUITE>  The group's cipher suite, f001 or 0001 [default: f001]\n      --group <HEX>    The group's id, empty by default\n      --signatures     Checks signatures and keys under suite 0001 too\n      --group-info     Checks a GroupInfo message, which has suite, id and tree\n      --raw            Reads bytes as they are, and not hex\n      --json           Prints one JSON object in place of lines\n      --where          Says on standard error where content is refused\n      --draw           Draws the tree, and checks nothing of it\n      --width <WIDTH>  Cuts each row of a drawing to so many columns\n      --svg            Makes a drawing an SVG file\n  -h, --help           Print help\n\nExample:\n  mls check examples/group_tree.hex --group 67\n";
 
 const REPLAY_HELP: &str =
-    "Replays a recording of groups\n\nUsage: mls replay [OPTIONS] <FILE>\n\nArguments:\n  <FILE>  A recording in JSON, or - for the standard input\n\nOptions:\n      --suite <SUITE>  The group's cipher suite, f001 or 0001 [default: f001]\n      --message <N>    Prints this message in hex, in place of the replies\n      --tree <K>       Prints this member's ratchet tree in hex, in place of the replies\n      --quiet          Leaves out replies that are as expected\n      --record         Prints the recording with these replies as those that it expects\n      --draw <MEMBER>  Draws this member's ratchet tree, in place of the replies\n      --width <WIDTH>  Cuts each row of a drawing to so many columns\n      --svg            Makes a drawing an SVG file\n      --progress       Says on standard error at each hundredth how many events are done\n  -h, --help           Print help\n\nExample:\n  mls replay examples/group.json --quiet\n";
+    "Replays a recording of groups\n\nUsage: mls replay [OPTIONS] <FILE>\n\nArguments:\n  <FILE>  A recording in JSON, or - for the standard input\n\nOptions:\n      --suite <SUITE>  The group's cipher suite, f001 or 0001 [default: f001]\n      --message <N>    Prints this message in hex, in place of the replies\n      --tree <K>       Prints this member's ratchet tree in hex, in place of the replies\n      --quiet          Leaves out replies that are as expected\n      --record         Prints the recording with these replies as those that it expects\n      --draw <MEMBER>  Draws this member's ratchet tree, in place of the replies\n      --width <WIDTH>  Cuts each row of a drawing to so many columns\n      --svg            Makes a drawing an SVG file\n      --progress       Says on standard error at each hundredth how many events are done\n      --where          Says on standard error where content is refused\n  -h, --help           Print help\n\nExample:\n  mls replay examples/group.json --quiet\n";
 
 const VECTORS_HELP: &str =
-    "Judges test vectors\n\nUsage: mls vectors <FILE>\n\nArguments:\n  <FILE>  A JSON array of vectors, or - for the standard input\n\nOptions:\n  -h, --help  Print help\n\nExample:\n  mls vectors examples/vectors.json\n";
+    "Judges test vectors\n\nUsage: mls vectors [OPTIONS] <FILE>\n\nArguments:\n  <FILE>  A JSON array of vectors, or - for the standard input\n\nOptions:\n      --where  Says on standard error where content is refused\n  -h, --help   Print help\n\nExample:\n  mls vectors examples/vectors.json\n";
 
 const NO_TEXT: &str =
     "error: invalid UTF-8 was detected in one or more arguments\n\nUsage: mls <COMMAND>\n       mls --explain <REFUSAL>\n\nFor more information, try '--help'.\n";
@@ -79,7 +80,7 @@ fn unless_out_of_memory(status: u8, err: &[u8]) -> Result<(), AllocError> {
 /// What the program leaves for words or the lack of them, and a file, where it can be opened.
 fn serve_words(
     alloc: Global,
-    job: &Result<Job<'_>, NoJob>,
+    request: &Result<Request<'_>, NoJob>,
     file: Option<&[u8]>,
 ) -> Result<Outcome, AllocError> {
     let mut file = file;
@@ -87,7 +88,7 @@ fn serve_words(
     let mut held = Vec::new(alloc);
     let status = serve(
         alloc,
-        job,
+        request,
         &mut file,
         &mut out,
         &mut Out::new(&mut held),
@@ -103,7 +104,7 @@ fn serve_words(
 
 /// The status for words and a file, and what is printed: on the output, and behind it on the errors.
 pub fn serve_file(alloc: Global, words: &[&str], file: &[u8]) -> Result<(u8, Vec<u8>), AllocError> {
-    let mut left = serve_words(alloc, &job(alloc, words), Some(file))?;
+    let mut left = serve_words(alloc, &request(alloc, words), Some(file))?;
     left.out.extend_from_slice(left.err.as_slice())?;
     Ok((left.status, left.out))
 }
@@ -276,7 +277,7 @@ fn says_what_is_wrong(rt: HostRuntime) -> Result<(), Fail> {
         (&["mls", "export", "FILE"], 2, UNKNOWN),
     ];
     for (words, status, text) in table {
-        let left = serve_words(alloc, &job(alloc, words), None)?;
+        let left = serve_words(alloc, &request(alloc, words), None)?;
         assert_eq!(rt; left.status, status);
         assert!(rt; left.out.is_empty());
         assert!(rt; left.err.as_slice() == text.as_bytes());
@@ -302,7 +303,7 @@ fn prints_help(rt: HostRuntime) -> Result<(), Fail> {
         (&["mls", "-V"], "mls 0.1.0\n"),
     ];
     for (words, text) in table {
-        let left = serve_words(alloc, &job(alloc, words), None)?;
+        let left = serve_words(alloc, &request(alloc, words), None)?;
         assert_eq!(rt; left.status, 0);
         assert!(rt; left.out.as_slice() == text.as_bytes());
         assert!(rt; left.err.is_empty());
@@ -341,10 +342,10 @@ fn stops_where_a_write_fails(rt: HostRuntime) -> Result<(), Fail> {
             let mut full = with_room(alloc, room)?;
             let mut file = Some(KEY_PACKAGE.as_bytes());
             let mut held = Vec::new(alloc);
-            let job = job(alloc, words);
+            let request = request(alloc, words);
             let status = serve(
                 alloc,
-                &job,
+                &request,
                 &mut file,
                 &mut Out::new(&mut full),
                 &mut Out::new(&mut held),
@@ -363,7 +364,7 @@ fn stops_where_a_write_fails(rt: HostRuntime) -> Result<(), Fail> {
 fn stops_where_a_read_fails(rt: HostRuntime) -> Result<(), Fail> {
     let alloc = rt.alloc();
     let words = ["mls", "show", "FILE"];
-    let job = job(alloc, words.as_slice());
+    let request = request(alloc, words.as_slice());
     for given in 0..KEY_PACKAGE.len() + 1 {
         let mut out = Vec::new(alloc);
         let mut held = Vec::new(alloc);
@@ -372,7 +373,7 @@ fn stops_where_a_read_fails(rt: HostRuntime) -> Result<(), Fail> {
         }));
         let status = serve(
             alloc,
-            &job,
+            &request,
             &mut broken,
             &mut out,
             &mut Out::new(&mut held),
@@ -391,20 +392,20 @@ fn says_what_fails_as_far_as_it_can(rt: HostRuntime) -> Result<(), Fail> {
     let alloc = rt.alloc();
     let text = b"mls: cannot read FILE\n";
     let words = ["mls", "show", "FILE"];
-    let job = job(alloc, words.as_slice());
+    let request = request(alloc, words.as_slice());
     for room in 0..text.len() + 1 {
         let mut none: Option<&[u8]> = None;
         let mut out = Vec::new(alloc);
         let mut full = with_room(alloc, room)?;
         let status = serve(
             alloc,
-            &job,
+            &request,
             &mut none,
             &mut out,
             &mut Out::new(&mut full),
             &mut Silent,
         );
-        if let Err(NoJob::OutOfMemory) = &job {
+        if let Err(NoJob::OutOfMemory) = &request {
             return Err(Fail::from(AllocError));
         }
         assert_eq!(rt; status, 3);

@@ -2,7 +2,7 @@
 
 ghost use Rattle.std.specs.Prelude.{Some, false};
 
-use crate::arguments::job;
+use crate::arguments::request;
 use crate::open_source;
 use crate::serving::serve;
 use crate::tests::rows::{JOIN, JOIN_TEXT};
@@ -50,10 +50,10 @@ fn goes_on_after_interrupted_writes(rt: HostRuntime) -> Result<(), Fail> {
     let mut file = Some(KEY_PACKAGE.as_bytes());
     let mut errors = Vec::new(alloc);
     let words = ["mls", "show", "FILE"];
-    let job = job(alloc, words.as_slice());
+    let request = request(alloc, words.as_slice());
     let status = serve(
         alloc,
-        &job,
+        &request,
         &mut file,
         &mut Out::new(&mut halting),
         &mut Out::new(&mut errors),
@@ -82,10 +82,10 @@ fn serve_endless(alloc: Global, words: &[&str]) -> Result<(u8, Vec<u8>), AllocEr
     let mut file = Some(In::new(Endless));
     let mut out = Vec::new(alloc);
     let mut errors = Vec::new(alloc);
-    let job = job(alloc, words);
+    let request = request(alloc, words);
     let status = serve(
         alloc,
-        &job,
+        &request,
         &mut file,
         &mut out,
         &mut Out::new(&mut errors),
@@ -145,7 +145,7 @@ fn lines(text: &[u8]) -> usize {
 fn stops_a_replay_without_memory(rt: HostRuntime) -> Result<(), Fail> {
     let alloc = rt.alloc();
     let words = ["mls", "replay", "FILE"];
-    let job = job(alloc, words.as_slice());
+    let request = request(alloc, words.as_slice());
     for left in 0..9 {
         let mut scarce = Scarce {
             held: Vec::new(alloc),
@@ -155,7 +155,7 @@ fn stops_a_replay_without_memory(rt: HostRuntime) -> Result<(), Fail> {
         let mut errors = Vec::new(alloc);
         let status = serve(
             alloc,
-            &job,
+            &request,
             &mut file,
             &mut scarce,
             &mut Out::new(&mut errors),

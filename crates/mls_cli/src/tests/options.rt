@@ -1,6 +1,6 @@
 //! Drawings, hints and GroupInfos of `mls check`, and `mls --explain`, by way of `serve`.
 
-use crate::arguments::job;
+use crate::arguments::request;
 use crate::serving::serve;
 use crate::tests::{serve_file, with_room};
 use mls_cli_replay::Silent;
@@ -172,7 +172,7 @@ fn hints_at_options(rt: HostRuntime) -> Result<(), Fail> {
 fn keeps_the_status_of_an_unwritten_hint(rt: HostRuntime) -> Result<(), Fail> {
     let alloc = rt.alloc();
     let words = ["mls", "show", "FILE"];
-    let job = job(alloc, words.as_slice());
+    let request = request(alloc, words.as_slice());
     let hint = &JSON[NOT_HEX.len()..];
     for room in 0..hint.len() + 1 {
         let mut file = Some("{}".as_bytes());
@@ -180,7 +180,7 @@ fn keeps_the_status_of_an_unwritten_hint(rt: HostRuntime) -> Result<(), Fail> {
         let mut full = with_room(alloc, room)?;
         let status = serve(
             alloc,
-            &job,
+            &request,
             &mut file,
             &mut out,
             &mut Out::new(&mut full),

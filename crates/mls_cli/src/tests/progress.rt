@@ -1,6 +1,6 @@
 //! What is said of how far a replay is, by way of `serve`.
 
-use crate::arguments::job;
+use crate::arguments::request;
 use crate::meter::{Meter, Pace, pace_of};
 use crate::serving::serve;
 use crate::tasks::ProgressChoice;
@@ -73,13 +73,13 @@ fn serve_and_report<P: Progress>(
     file: &str,
     progress: &mut P,
 ) -> Served {
-    let job = job(alloc, words);
+    let request = request(alloc, words);
     let mut file = Some(file.as_bytes());
     let mut out = Vec::new(alloc);
     let mut errors = Vec::new(alloc);
     let status = serve(
         alloc,
-        &job,
+        &request,
         &mut file,
         &mut out,
         &mut Out::new(&mut errors),
@@ -92,10 +92,10 @@ fn serve_and_report<P: Progress>(
     }
 }
 
-/// When it is said how far the job of words is, where the errors go to a terminal or don't.
+/// When it is said how far the job of some words is, where the errors go to a terminal or don't.
 fn pace_for(alloc: Global, words: &[&str], is_terminal: bool) -> Pace {
-    match job(alloc, words) {
-        Ok(job) => pace_of(job.progress(), is_terminal),
+    match request(alloc, words) {
+        Ok(request) => pace_of(request.job.progress(), is_terminal),
         Err(_) => Pace::Never,
     }
 }

@@ -1,6 +1,6 @@
 //! What `mls replay` prints, by way of `serve`.
 
-use crate::arguments::job;
+use crate::arguments::request;
 use crate::serving::serve;
 use crate::tests::rows::{EXPECTED, EXPECTED_TEXT, JOIN, JOIN_TEXT};
 use crate::tests::{Broken, OUT_OF_MEMORY, serve_file, unless_out_of_memory, with_room};
@@ -194,7 +194,7 @@ fn refuses_recordings(rt: HostRuntime) -> Result<(), Fail> {
 #[test]
 fn stops_where_a_write_fails(rt: HostRuntime) -> Result<(), Fail> {
     let alloc = rt.alloc();
-    let job = job(alloc, WORDS);
+    let request = request(alloc, WORDS);
     let text = EXPECTED_TEXT;
     for room in 0..text.len() + 1 {
         let mut full = with_room(alloc, room)?;
@@ -202,7 +202,7 @@ fn stops_where_a_write_fails(rt: HostRuntime) -> Result<(), Fail> {
         let mut held = Vec::new(alloc);
         let status = serve(
             alloc,
-            &job,
+            &request,
             &mut file,
             &mut Out::new(&mut full),
             &mut Out::new(&mut held),
@@ -219,7 +219,7 @@ fn stops_where_a_write_fails(rt: HostRuntime) -> Result<(), Fail> {
 #[test]
 fn prints_nothing_where_a_read_fails(rt: HostRuntime) -> Result<(), Fail> {
     let alloc = rt.alloc();
-    let job = job(alloc, WORDS);
+    let request = request(alloc, WORDS);
     let whole = recording_of(alloc, ALONE)?;
     let recording = whole.as_str();
     for given in 0..recording.len() + 1 {
@@ -230,7 +230,7 @@ fn prints_nothing_where_a_read_fails(rt: HostRuntime) -> Result<(), Fail> {
         }));
         let status = serve(
             alloc,
-            &job,
+            &request,
             &mut broken,
             &mut out,
             &mut Out::new(&mut held),
@@ -248,13 +248,13 @@ fn prints_nothing_where_a_read_fails(rt: HostRuntime) -> Result<(), Fail> {
 #[test]
 fn stops_where_memory_is_wanting(rt: HostRuntime) -> Result<(), Fail> {
     let alloc = rt.alloc();
-    let job = job(alloc, WORDS);
+    let request = request(alloc, WORDS);
     let mut file = Some(JOIN.as_bytes());
     let mut out = Vec::new(alloc);
     let mut held = Vec::new(alloc);
     let status = serve(
         alloc,
-        &job,
+        &request,
         &mut file,
         &mut out,
         &mut Out::new(&mut held),

@@ -1,6 +1,6 @@
 //! What `mls replay` prints of recordings of version 2, by way of `serve`.
 
-use crate::arguments::job;
+use crate::arguments::request;
 use crate::serving::serve;
 use crate::tests::replay::{ADA, ALONE, BEGUN};
 use crate::tests::{OUT_OF_MEMORY, serve_file, unless_out_of_memory, with_room};
@@ -210,7 +210,7 @@ fn alone_text(alloc: Global) -> Result<String, AllocError> {
 #[test]
 fn stops_where_a_write_fails(rt: HostRuntime) -> Result<(), Fail> {
     let alloc = rt.alloc();
-    let job = job(alloc, WORDS);
+    let request = request(alloc, WORDS);
     let file = alone(alloc)?;
     let text = alone_text(alloc)?;
     for room in 0..text.len() + 1 {
@@ -219,7 +219,7 @@ fn stops_where_a_write_fails(rt: HostRuntime) -> Result<(), Fail> {
         let mut held = Vec::new(alloc);
         let status = serve(
             alloc,
-            &job,
+            &request,
             &mut source,
             &mut Out::new(&mut full),
             &mut Out::new(&mut held),
@@ -237,7 +237,7 @@ fn stops_where_a_write_fails(rt: HostRuntime) -> Result<(), Fail> {
 #[test]
 fn stops_where_memory_is_wanting(rt: HostRuntime) -> Result<(), Fail> {
     let alloc = rt.alloc();
-    let job = job(alloc, WORDS);
+    let request = request(alloc, WORDS);
     let file = group_with(alloc, "\"member 0: gone\"")?;
     let members = printed(alloc)?;
     let text = format!(in alloc;
@@ -248,7 +248,7 @@ fn stops_where_memory_is_wanting(rt: HostRuntime) -> Result<(), Fail> {
     let mut held = Vec::new(alloc);
     let status = serve(
         alloc,
-        &job,
+        &request,
         &mut source,
         &mut out,
         &mut Out::new(&mut held),

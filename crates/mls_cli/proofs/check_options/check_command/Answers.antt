@@ -10,7 +10,8 @@ returns-clause-app c =
     let four = app_is c.in_ok-with_info.ensures c.flag_arg-info.ensures.local three c.flag_arg-info.ensures.rule in
     let five = app_is c.in_ok-with_raw.ensures c.flag_arg-raw.ensures.local four c.flag_arg-raw.ensures.rule in
     let six = app_is c.in_ok-with_json.ensures c.json_arg.ensures.local five c.json_arg.ensures.rule in
-    then_app c.with_draw.result with_draw_rules c.with_draw.ensures.app six
+    let seven = app_is c.in_ok-with_where.ensures c.where_arg.ensures.local six c.where_arg.ensures.rule in
+    then_app c.with_draw.result with_draw_rules c.with_draw.ensures.app seven
 
 pub returns-clause-local : goal.returns-clause-local
 returns-clause-local c =
@@ -19,4 +20,5 @@ returns-clause-local c =
     let three = local_is c.in_ok-with_signatures.ensures c.flag_arg-signatures.ensures.local two in
     let four = local_is c.in_ok-with_info.ensures c.flag_arg-info.ensures.local three in
     let five = local_is c.in_ok-with_raw.ensures c.flag_arg-raw.ensures.local four in
-    c.with_draw.ensures.local (local_is c.in_ok-with_json.ensures c.json_arg.ensures.local five)
+    let six = local_is c.in_ok-with_json.ensures c.json_arg.ensures.local five in
+    c.with_draw.ensures.local (local_is c.in_ok-with_where.ensures c.where_arg.ensures.local six)

@@ -1,7 +1,7 @@
 use Rattle.std.proofs.Common.{rules, arith}
 use Rattle.mls_suite.specs.Glass.{glass}
 use Rattle.mls_cli_check.specs.GroupInfo.{group_info_page}
-use Rattle.mls_cli.specs.Serving.{checking}
+use Rattle.mls_cli.specs.Pages.{checking}
 use Rattle.mls_cli.specs.declared.tasks.SuiteChoice.TheVariants as choice
 use Rattle.mls_cli.proofs.Reading.{long_page, short_page}
 use Rattle.mls_cli.proofs.printing.info_file.Goals as goal

@@ -1,6 +1,6 @@
 use Rattle.std.proofs.Common.{rules, arith}
 use Rattle.mls_cli_check.specs.Check.{check_page}
-use Rattle.mls_cli.specs.Serving.{checking}
+use Rattle.mls_cli.specs.Pages.{checking}
 use Rattle.mls_cli.proofs.Reading.{long_page, short_page}
 use Rattle.mls_cli.proofs.printing.tree_file.Goals as goal
 

@@ -11,7 +11,8 @@ returns-clause-app c =
     let four = app_is c.in_ok-with_quiet.ensures c.flag_arg-quiet.ensures.local three c.flag_arg-quiet.ensures.rule in
     let five = app_is c.in_ok-with_record.ensures c.flag_arg-record.ensures.local four c.flag_arg-record.ensures.rule in
     let six = c.in_ok-with_all.ensures.app ∙ ap with_picture_rules five in
-    last_app c.arg-6.result c.in_ok-with_all.with_all c.flag_arg-progress.result c.arg-6.ensures c.flag_arg-progress.ensures.local six c.flag_arg-progress.ensures.rule
+    let seven = app_is c.in_ok-with_progress.ensures c.flag_arg-progress.ensures.local six c.flag_arg-progress.ensures.rule in
+    last_app c.arg-7.result c.in_ok-with_progress.with_progress c.where_arg.result c.arg-7.ensures c.where_arg.ensures.local seven c.where_arg.ensures.rule
 
 pub returns-clause-local : goal.returns-clause-local
 returns-clause-local c =
@@ -20,4 +21,5 @@ returns-clause-local c =
     let three = local_is c.in_ok-with_tree.ensures c.number_arg-tree.ensures.local two in
     let four = local_is c.in_ok-with_quiet.ensures c.flag_arg-quiet.ensures.local three in
     let five = local_is c.in_ok-with_record.ensures c.flag_arg-record.ensures.local four in
-    last_local c.arg-6.result c.in_ok-with_all.with_all c.flag_arg-progress.result c.arg-6.ensures c.flag_arg-progress.ensures.local (c.in_ok-with_all.ensures.local five)
+    let seven = local_is c.in_ok-with_progress.ensures c.flag_arg-progress.ensures.local (c.in_ok-with_all.ensures.local five) in
+    last_local c.arg-7.result c.in_ok-with_progress.with_progress c.where_arg.result c.arg-7.ensures c.where_arg.ensures.local seven

@@ -3,7 +3,7 @@ use Rattle.mls_cli_text.proofs.Pages.{made_prints}
 use Rattle.mls_cli_text.specs.InputOutput.{write_fails}
 use Rattle.mls_cli_text.specs.Text.{entry_of, line_text}
 use Rattle.mls_cli_text.specs.declared.fault.Fault.{Fault}
-use Rattle.mls_cli.specs.Serving.{Says, fault_text}
+use Rattle.mls_cli.specs.Saying.{Says, fault_text}
 use Rattle.mls_cli.proofs.Telling.{cause_is, stays}
 use Rattle.mls_cli.proofs.serving.tell.Goals as goal
 
