@@ -39,14 +39,21 @@ AreAllowed vs value = (value ≡ vs) × (are_allowed vs ≡ true)
 
 -- an extension whose type passes a test, else `ExtensionNotAllowed` (14), before its data are read
 abbrev pub extension_where : (ℕ → Bool) → Format Extension
-extension_where allowed = seen (guarded uint16 allowed 14 ⨾ byte_string) (λ x. record { kind = x.0; content = x.1 }) (λ v. (v.kind, v.content)) (λ v. refl) (λ x _. refl)
+extension_where allowed = seen (guarded uint16 allowed 14 ⨾ byte_string)
+    (λ x. record { kind = x.0; content = x.1 })
+    (λ v. (v.kind, v.content))
+    (λ v. refl) (λ x _. refl)
 
 pub extension_where_nonempty : (allowed : ℕ → Bool) → IsNonempty (extension_where allowed)
 extension_where_nonempty allowed v fits = first_nonempty (guarded uint16 allowed 14) byte_string (λ n h. uint16_nonempty n h.0) (v.kind, v.content) fits
 
 -- behind an extension none of its type may stand
 abbrev pub each_once : Rule (List ℕ) Extension
-each_once = record { item = λ types. extension_where (is_new types); next = λ types v. v.kind ∷ types; nonempty = λ types. extension_where_nonempty (is_new types) }
+each_once = record {
+  item = λ types. extension_where (is_new types);
+  next = λ types v. v.kind ∷ types;
+  nonempty = λ types. extension_where_nonempty (is_new types);
+}
 
 -- the extensions that all of the bytes spell, which a group may carry
 abbrev pub allowed_extensions : List ℕ → Result (List Extension) ℕ

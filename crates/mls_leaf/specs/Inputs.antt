@@ -38,7 +38,9 @@ ParentHashInputFits encryption_key parent_hash sibling = byte_string.Fits encryp
 
 -- the leaf's fields before its signature, with no extensions
 unfoldable pub leaf_content : LeafNode → List ℕ
-leaf_content v = opaque v.encryption_key ++ opaque v.signature_key ++ credential.spell v.credential ++ capabilities.spell v.capabilities ++ leaf_source.spell v.source ++ opaque []
+leaf_content v =
+    opaque v.encryption_key ++ opaque v.signature_key ++ credential.spell v.credential
+    ++ capabilities.spell v.capabilities ++ leaf_source.spell v.source ++ opaque []
 
 abbrev pub LeafContentFits : LeafNode → Type 0
 LeafContentFits v = byte_string.Fits v.encryption_key × (byte_string.Fits v.signature_key × (credential.Fits v.credential × (capabilities.Fits v.capabilities × leaf_source.Fits v.source)))

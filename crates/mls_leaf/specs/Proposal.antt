@@ -46,7 +46,9 @@ proposal_back (inr (inr (inr (inl x)))) = refl
 proposal_back (inr (inr (inr (inr x)))) = absurd x
 
 unfoldable pub proposal : Format declared.Proposal
-proposal = seen (by_uint16 (case 1 key_package (case 2 leaf_node (case 3 uint32 (case 7 group_extensions (others 12)))))) make_proposal proposal_parts proposal_there (λ x _. proposal_back x)
+proposal = seen
+    (by_uint16 (case 1 key_package (case 2 leaf_node (case 3 uint32 (case 7 group_extensions (others 12))))))
+    make_proposal proposal_parts proposal_there (λ x _. proposal_back x)
 
 pub proposal_nonempty : IsNonempty proposal
 unfolding proposal

@@ -73,7 +73,8 @@ content_back (inr (inr (inr x))) = absurd x
 
 -- uint8 content type, then 1: application data<V>; 2: Proposal; 3: Commit; another type is `BadTag` (7)
 unfoldable pub content : Format contents.Content
-content = seen (by_uint8 (case 1 byte_string (case 2 proposal (case 3 commit (others 7))))) make_content content_parts content_there (λ x _. content_back x)
+content = seen (by_uint8 (case 1 byte_string (case 2 proposal (case 3 commit (others 7)))))
+    make_content content_parts content_there (λ x _. content_back x)
 
 pub content_nonempty : IsNonempty content
 unfolding content

@@ -59,7 +59,10 @@ tail_back (inr (inr (inr x))) = absurd x
 -- (RFC 9420, 6 and 6.1) uint8 content type, then 1: application data<V>, signature<V>; 2: Proposal, signature<V>;
 -- 3: Commit, signature<V>, confirmation_tag<V>; another type is `BadTag` (7)
 unfoldable pub signed_tail : Format Tail
-signed_tail = seen (by_uint8 (case 1 (byte_string ⨾ byte_string) (case 2 (proposal ⨾ byte_string) (case 3 (commit ⨾ byte_string ⨾ byte_string) (others 7))))) make_tail tail_parts tail_there (λ x _. tail_back x)
+signed_tail = seen
+    (by_uint8 (case 1 (byte_string ⨾ byte_string) (case 2 (proposal ⨾ byte_string)
+    (case 3 (commit ⨾ byte_string ⨾ byte_string) (others 7)))))
+    make_tail tail_parts tail_there (λ x _. tail_back x)
 
 -- FramedContent, FramedContentAuthData (RFC 9420, 6 and 6.1): group_id<V>, uint64 epoch, Sender, authenticated_data<V>,
 -- then the content from its type on

@@ -19,7 +19,13 @@ content_of_body (Commit made tag) = says.Commit made
 
 -- the FramedContent of a signed content (RFC 9420, 6)
 abbrev pub framed : SignedContent → FramedContent
-framed v = record { group_id = v.group_id; epoch = v.epoch; sender = v.sender; authenticated_data = v.authenticated_data; content = content_of_body v.body }
+framed v = record {
+  group_id = v.group_id;
+  epoch = v.epoch;
+  sender = v.sender;
+  authenticated_data = v.authenticated_data;
+  content = content_of_body v.body;
+}
 
 -- for a commit confirmation_tag<V>, else nothing
 abbrev pub tag_spelling : SignedBody → List ℕ
@@ -51,4 +57,11 @@ tagged_body (says.Commit made) tag = Commit made tag
 
 -- the content with this signature, and if it is a commit with this confirmation tag
 abbrev pub signed_with : FramedContent → List ℕ → List ℕ → SignedContent
-signed_with v signature tag = record { group_id = v.group_id; epoch = v.epoch; sender = v.sender; authenticated_data = v.authenticated_data; body = tagged_body v.content tag; signature = signature }
+signed_with v signature tag = record {
+  group_id = v.group_id;
+  epoch = v.epoch;
+  sender = v.sender;
+  authenticated_data = v.authenticated_data;
+  body = tagged_body v.content tag;
+  signature = signature;
+}
