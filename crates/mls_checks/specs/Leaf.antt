@@ -23,7 +23,9 @@ lists entries x = list_any (λ y. y == x) entries
 -- whether the leaf lists version 1 (mls10), the suite and credential type 1 (basic), which is all that a group of this
 -- project needs (RFC 9420, 7.2 and 7.3)
 unfoldable pub is_capable : ℕ → LeafNode → Bool
-is_capable suite v = lists v.capabilities.versions 1 && lists v.capabilities.cipher_suites suite && lists v.capabilities.credentials 1
+is_capable suite v =
+    lists v.capabilities.versions 1 && lists v.capabilities.cipher_suites suite
+    && lists v.capabilities.credentials 1
 
 -- whether the leaf was made for a key package (RFC 9420, 7.2)
 abbrev pub is_of_key_package : LeafSource → Bool
@@ -43,4 +45,5 @@ is_of_source Commit (by_commit hash) = true
 -- whether both leaves have one signature key and one credential, which this project asks; the standard leaves it to an
 -- application what may follow a credential (RFC 9420, 5.3.1)
 unfoldable pub has_identity_of : LeafNode → LeafNode → Bool
-has_identity_of old new = bytes_eq new.signature_key old.signature_key && bytes_eq new.credential.identity old.credential.identity
+has_identity_of old new =
+    bytes_eq new.signature_key old.signature_key && bytes_eq new.credential.identity old.credential.identity

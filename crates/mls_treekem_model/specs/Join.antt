@@ -32,7 +32,8 @@ require_present (Some p) m = Ok m
 unfoldable pub climb_take : Crypto → List Step → ℕ → Keys → List ℕ → Result Climb ℕ
 climb_take c [] j ks secret = Err 34
 climb_take c (s ∷ ss) j ks secret =
-    (if is_beside s j then require_present s.parent (record { secret = secret; keys = rest ks }) else climb_take c ss j (rest ks) secret)
+    (if is_beside s j then require_present s.parent (record { secret = secret; keys = rest ks })
+    else climb_take c ss j (rest ks) secret)
     >>= λ m. climb_past_present c j s.parent m
 
 -- whether the key at a parent isn't missing: the parent is blank or lists the joiner, or there is a key
@@ -50,7 +51,8 @@ is_complete j (s ∷ ss) (o ∷ ks) = is_due j s.parent o && is_complete j ss ks
 -- where a parent over both is not as it must be, 35 where a key that is due is missing (RFC 9420, 12.4.3.1)
 unfoldable pub take_keys : Crypto → Term → ℕ → ℕ → List ℕ → List ℕ → Result Climb ℕ
 take_keys c t i j sk secret =
-    climb_take c (way 0 t i) j (leaf_only (way 0 t j) sk) secret >>= λ m. if is_complete j (way 0 t j) m.keys then Ok m else Err 35
+    climb_take c (way 0 t i) j (leaf_only (way 0 t j) sk) secret
+    >>= λ m. if is_complete j (way 0 t j) m.keys then Ok m else Err 35
 
 -- what joiner j takes with any signer: `PathKeyMismatch` (34) where it is outside the tree
 unfoldable pub take_answer : Crypto → Term → ℕ → ℕ → List ℕ → List ℕ → Result Climb ℕ

@@ -52,7 +52,8 @@ first_ciphertexts (n ∷ ns) = n.ciphertexts
 -- and its keys below
 abbrev pub open_at_ancestor : Crypto → List ℕ → List ℕ → Step → ℕ → Keys → List UpdatePathNode → Result Climb ℕ
 open_at_ancestor c context added s j ks ns =
-    open_first c context (key_in s.first s.other j ks) (targets added s) (first_ciphertexts ns) >>= λ secret. Ok (record { secret = secret; keys = ks })
+    open_first c context (key_in s.first s.other j ks) (targets added s) (first_ciphertexts ns)
+    >>= λ secret. Ok (record { secret = secret; keys = ks })
 
 -- the path secret that member j opens there, along the committer's way
 unfoldable pub opened_along : Crypto → List ℕ → List ℕ → List Step → ℕ → Keys → List UpdatePathNode → Result (List ℕ) ℕ
@@ -90,7 +91,8 @@ climb_past_parent c false ns m = Ok (climb_past_blank m)
 unfoldable pub climb_open : Crypto → List ℕ → List ℕ → List Step → ℕ → Keys → List UpdatePathNode → Result Climb ℕ
 climb_open c context added [] j ks ns = Err 32
 climb_open c context added (s ∷ ss) j ks ns =
-    (if is_beside s j then open_at_ancestor c context added s j (rest ks) ns else climb_open c context added ss j (rest ks) (nodes_below (is_filtered s) ns))
+    (if is_beside s j then open_at_ancestor c context added s j (rest ks) ns
+    else climb_open c context added ss j (rest ks) (nodes_below (is_filtered s) ns))
     >>= λ m. climb_past_parent c (is_filtered s) ns m
 
 -- what member j of a whole tree takes of the path of leaf i, whose nodes come the lowest first: the commit secret, and

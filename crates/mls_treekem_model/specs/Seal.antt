@@ -38,7 +38,8 @@ ciphertext_of s = record { kem_output = s.kem; ciphertext = s.ct }
 
 -- a path secret sealed to a public key with some randomness, under the context of the group (RFC 9420, 7.6)
 unfoldable pub seal_secret : Crypto → List ℕ → List ℕ → List ℕ → List ℕ → Option HpkeCiphertext
-seal_secret c context secret pk rnd = option_map ciphertext_of (encrypt_with_label c pk (codes "UpdatePathNode") context secret rnd)
+seal_secret c context secret pk rnd =
+    option_map ciphertext_of (encrypt_with_label c pk (codes "UpdatePathNode") context secret rnd)
 
 -- a ciphertext is a path secret sealed to a key that is there
 pub record IsSealedTo (c : Crypto) (context secret : List ℕ) (key : Option (List ℕ)) (x : HpkeCiphertext) : Type 0 where
@@ -104,13 +105,15 @@ seal_along c context added rnd [] start = Some []
 seal_along c context added rnd (s ∷ ss) start =
     let secret : List ℕ = secret_above ss start in
     path_past (is_filtered s)
-    (with_ciphertexts (node_public c secret) (seal_all c context secret s.first s.other rnd (seal_count added ss) (targets added s)))
+    (with_ciphertexts (node_public c secret)
+    (seal_all c context secret s.first s.other rnd (seal_count added ss) (targets added s)))
     (seal_along c context added rnd ss start)
 
 -- the nodes of the path that leaf i of a whole tree sends, the lowest first; `BadKey` (36) where a key is missing or
 -- not fit (RFC 9420, 7.5 and 7.6)
 unfoldable pub sealed_path : Crypto → List ℕ → List ℕ → (ℕ → List ℕ) → Term → ℕ → List ℕ → Result (List UpdatePathNode) ℕ
-sealed_path c context added rnd t i start = require_some 36 (option_map reverse (seal_along c context added rnd (way 0 t i) start))
+sealed_path c context added rnd t i start =
+    require_some 36 (option_map reverse (seal_along c context added rnd (way 0 t i) start))
 
 -- ---- the path of any secrets and public keys, the lowest node's first
 
