@@ -45,8 +45,10 @@ unfoldable pub merge : ℕ → Term → ℕ → List (List ℕ) → List ℕ →
 merge b (Leaf v) i ks h x = Leaf (Some x)
 merge b (Branch c l r) i ks h x =
     if nat_lt i (b + width l)
-    then Branch (parent_beside (b + width l) r ks h) (merge b l i (keys_beside (b + width l) r ks) (hash_beside (b + width l) r ks h) x) r
-    else Branch (parent_beside b l ks h) l (merge (b + width l) r i (keys_beside b l ks) (hash_beside b l ks h) x)
+    then Branch (parent_beside (b + width l) r ks h)
+    (merge b l i (keys_beside (b + width l) r ks) (hash_beside (b + width l) r ks h) x) r
+    else Branch (parent_beside b l ks h) l
+    (merge (b + width l) r i (keys_beside b l ks) (hash_beside b l ks h) x)
 
 -- the parent hash that a merged path hands down to its leaf, from h on (RFC 9420, 7.9)
 unfoldable pub path_hash : ℕ → Term → ℕ → List (List ℕ) → List ℕ → List ℕ
