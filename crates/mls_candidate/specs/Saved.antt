@@ -12,7 +12,7 @@ use Rattle.mls_saved.specs.Candidate.{saved_candidate}
 use Rattle.mls_saved.specs.declared.candidate.SavedCandidate.{SavedCandidate}
 use Rattle.mls_model.specs.Candidate.{Candidate}
 use Rattle.mls_model.specs.MemberInvariant.{IsGoodCandidate}
-use Rattle.mls_model.specs.Messages.{is_within_limit}
+use Rattle.mls_model.specs.Messages.{require_within_limit}
 
 -- ---- saving
 
@@ -26,7 +26,7 @@ saved_bytes k = saved_candidate.spell (saved_parts k)
 
 -- what saving a candidate answers: 6 where there are more bytes than an input may have
 unfoldable pub save_candidate : Candidate → Result (List ℕ) ℕ
-save_candidate k = is_within_limit (saved_bytes k) >> Ok (saved_bytes k)
+save_candidate k = require_within_limit (saved_bytes k) >> Ok (saved_bytes k)
 
 -- ---- loading
 

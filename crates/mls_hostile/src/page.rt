@@ -71,7 +71,7 @@ impl Page {
 
     fn kept(&mut self, member: &Member<Glass>, references: &[Secret]) -> Result<(), AllocError> {
         for reference in references {
-            self.optional(member.kept(reference))?;
+            self.optional(member.kept_message(reference))?;
         }
         match member.pending_secret() {
             Some(secret) => self.entry(secret),

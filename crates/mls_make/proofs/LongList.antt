@@ -28,7 +28,7 @@ use Rattle.mls_model.specs.PublicState.{Used}
 use Rattle.mls_model.specs.Proposals.{extended, extension_lists, extensions_in, first_list, is_path_required}
 use Rattle.mls_model.specs.Commit.{Edits, apply_proposals, apply_path_if}
 use Rattle.mls_model.specs.Member.{KeptProposal, Member, find_proposal, find_proposals}
-use Rattle.mls_model.specs.Messages.{is_within_limit, message_by}
+use Rattle.mls_model.specs.Messages.{require_within_limit, message_by}
 use Rattle.mls_model.specs.Make.{MadePath, new_path, no_path}
 use Rattle.mls_public_group.specs.Short.{IsBelow, IsProposalBelow, AreBelow}
 use Rattle.mls_public_group.proofs.ShortLaws.{below_more, list_below}
@@ -133,7 +133,7 @@ six_is e = absurd cc
 
 -- whatever its signature and its tag are
 too_long : (m : Member) (list : List ProposalOrRef) (used : List Used) (made : MadePath) → find_proposals m.kept m.keys.leaf list ≡ Ok used → give_long_list used ≡ true →
-    (signature tag : List ℕ) → is_within_limit (message_by m (signed_with (said_in m list made) signature tag)) ≡ Err 6
+    (signature tag : List ℕ) → require_within_limit (message_by m (signed_with (said_in m list made) signature tag)) ≡ Err 6
 too_long m list used made found long = refused_long m (said_in m list made) (Wire wire.TooLong) (λ no. (refl, said_long m list used made found long)) six_is
 
 pub long_list_fails : (c : Crypto) → Lawful c → (m : Member) (list : List ProposalOrRef) (used : List Used) (wants : Bool) (seed : List ℕ) (e : Edits) (n : ℕ) →

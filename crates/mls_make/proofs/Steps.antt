@@ -18,7 +18,7 @@ use Rattle.mls_model.specs.PublicState.{Used}
 use Rattle.mls_model.specs.Proposals.{adds}
 use Rattle.mls_model.specs.Commit.{Edits, Change, apply_proposals, apply_path_if, public_with}
 use Rattle.mls_model.specs.Member.{Member, find_proposals, with_keys}
-use Rattle.mls_model.specs.Messages.{is_within_limit, content_by, content_signature, message_by}
+use Rattle.mls_model.specs.Messages.{require_within_limit, content_by, content_signature, message_by}
 use Rattle.mls_model.specs.Make.{MadePath, Made, path_secret_for, path_seals, welcome_if, make}
 use Rattle.mls_model.specs.Welcome.{unsigned_info, signed_info, secrets_with, welcome_message}
 use Rattle.mls_commit.specs.Change.{change_of}
@@ -79,7 +79,7 @@ module _ (c : Crypto) (m : Member) (list : List ProposalOrRef) (used : List Used
         made_is = made_by_is ∙ made_with_is
 
         -- a content alone is too large
-        pub content_fails : (n : ℕ) → ((signature tag : List ℕ) → is_within_limit (message_by m (signed_with (said_in m list made) signature tag)) ≡ Err n) → commit_from_proposals c m list used wants_path seed ≡ Err n
+        pub content_fails : (n : ℕ) → ((signature tag : List ℕ) → require_within_limit (message_by m (signed_with (said_in m list made) signature tag)) ≡ Err n) → commit_from_proposals c m list used wants_path seed ≡ Err n
         unfolding commit_from_change
         content_fails n h = made_is ∙ rw (h _ _) refl
 
@@ -106,7 +106,7 @@ module _ (c : Crypto) (m : Member) (said : FramedContent) (signature : List ℕ)
 
   pub made_of_is : commit_from_change c m said signature used e made seed change ≡ (limited_text message >>= λ bytes. with_welcome >>= λ welcome. Ok (made_as_of m made change bytes welcome))
   unfolding commit_from_change joiner_of epoch_of tag_of
-  made_of_is = through (is_within_limit message) message (λ bytes. with_welcome >>= λ welcome. Ok (made_as_of m made change bytes welcome))
+  made_of_is = through (require_within_limit message) message (λ bytes. with_welcome >>= λ welcome. Ok (made_as_of m made change bytes welcome))
 
   pub message_fails : (n : ℕ) → limited_text message ≡ Err n → commit_from_change c m said signature used e made seed change ≡ Err n
   message_fails n h = made_of_is ∙ ap (λ (r : Result (List ℕ) ℕ). r >>= λ bytes. with_welcome >>= λ welcome. Ok (made_as_of m made change bytes welcome)) h

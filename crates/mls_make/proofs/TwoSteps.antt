@@ -26,7 +26,7 @@ use Rattle.mls_model.specs.PublicState.{PublicState, Used}
 use Rattle.mls_model.specs.Proposals.{adds}
 use Rattle.mls_model.specs.Commit.{Edits, Change, apply_proposals, apply_path_if, change_after_edits, public_with}
 use Rattle.mls_model.specs.Member.{Member, with_keys}
-use Rattle.mls_model.specs.Messages.{is_within_limit, content_by, content_signature, message_by}
+use Rattle.mls_model.specs.Messages.{require_within_limit, content_by, content_signature, message_by}
 use Rattle.mls_model.specs.Make.{Made, MadePath, welcome_if, path_secret_for, path_seals}
 use Rattle.mls_model.specs.Welcome.{secrets_with, unsigned_info, signed_info, welcome_message}
 use Rattle.mls_commit.specs.Change.{change_of}
@@ -51,15 +51,15 @@ commit_of list made = record { proposals = list; path = made.path }
 
 -- ---- the first step
 
-refused_through : {A : Type 0} (bytes : List ℕ) (x : A) (n : ℕ) → limited_text bytes ≡ Err n → (is_within_limit bytes >> Ok x) ≡ Err n
-refused_through bytes x n h = through (is_within_limit bytes) h
+refused_through : {A : Type 0} (bytes : List ℕ) (x : A) (n : ℕ) → limited_text bytes ≡ Err n → (require_within_limit bytes >> Ok x) ≡ Err n
+refused_through bytes x n h = through (require_within_limit bytes) h
   where
     through : (r : Result Passed ℕ) → (r >> Ok bytes) ≡ Err n → (r >> Ok x) ≡ Err n
     through (Ok p) e = cc
     through (Err k) e = cc
 
 -- a content alone is too large
-pub content_refused : (c : Crypto) (m : Member) (carried : List Extension) (commit : Commit) (e : Edits) (t : Term) (secret : List ℕ) (n : ℕ) → ((signature tag : List ℕ) → is_within_limit (message_by m (signed_with (content_by m (says.Commit commit)) signature tag)) ≡ Err n) → send_commit c m carried commit e t secret ≡ Err n
+pub content_refused : (c : Crypto) (m : Member) (carried : List Extension) (commit : Commit) (e : Edits) (t : Term) (secret : List ℕ) (n : ℕ) → ((signature tag : List ℕ) → require_within_limit (message_by m (signed_with (content_by m (says.Commit commit)) signature tag)) ≡ Err n) → send_commit c m carried commit e t secret ≡ Err n
 unfolding send_commit
 content_refused c m carried commit e t secret n h = rw (h _ _) refl
 
@@ -80,7 +80,7 @@ module _ (c : Crypto) (m : Member) (s : Speaker) (carried : List Extension) (com
   joiner_as : joiner ≡ joiner_secret (init_secret m.epoch) secret (group_context.spell change.context)
   joiner_as = joiner_is ∙ ap (λ (l : List ℕ). joiner_secret (init_secret l) secret (group_context.spell change.context)) (sym speaks.epoch)
 
-  sent_is : send_commit c m carried commit e t secret ≡ (is_within_limit message_of >> Ok (sent_parts message_of change joiner epoch tag))
+  sent_is : send_commit c m carried commit e t secret ≡ (require_within_limit message_of >> Ok (sent_parts message_of change joiner epoch tag))
   unfolding send_commit
   sent_is = let a = change_as in let b = joiner_as in cc
 
@@ -89,7 +89,7 @@ module _ (c : Crypto) (m : Member) (s : Speaker) (carried : List Extension) (com
 
   pub sent_done : (message : List ℕ) → limited_text message_of ≡ Ok message → send_commit c m carried commit e t secret ≡ Ok (sent_parts message change joiner epoch tag)
   sent_done message h =
-      let two = then_ok (is_within_limit message_of) (Ok message_of) message h in
+      let two = then_ok (require_within_limit message_of) (Ok message_of) message h in
       let same : message_of ≡ message = cc in
       sent_is ∙ ap (λ (r : Result Passed ℕ). r >> Ok (sent_parts message_of change joiner epoch tag)) two.0 ∙ ap (λ (l : List ℕ). Ok (sent_parts l change joiner epoch tag)) same
 
@@ -132,7 +132,7 @@ module _ (c : Crypto) (m : Member) (list : List ProposalOrRef) (used : List Used
 
   of_change : commit_from_change c m said signature used e made seed change ≡ (send_commit c m (carried_after m used) (commit_of list made) e t made.climb.secret >>= with_welcome c m used made seed)
   unfolding commit_from_change send_commit with_welcome change_of
-  of_change = sym (in_two (is_within_limit _) _ _)
+  of_change = sym (in_two (require_within_limit _) _ _)
 
   in_steps : change_after_edits c m.public m.keys.leaf used (commit_of list made) said signature e ≡ Ok change → commit_from_path c m list used e made seed ≡ (send_commit c m (carried_after m used) (commit_of list made) e t made.climb.secret >>= with_welcome c m used made seed)
   unfolding commit_from_path

@@ -15,7 +15,7 @@ use Rattle.mls_model.specs.PublicState.{Used}
 use Rattle.mls_model.specs.Proposals.{adds, extended, is_path_required}
 use Rattle.mls_model.specs.Commit.{Edits, Change, apply_proposals, change_after_edits, public_with}
 use Rattle.mls_model.specs.Member.{Member, with_keys}
-use Rattle.mls_model.specs.Messages.{is_within_limit, content_by, content_signature, message_by}
+use Rattle.mls_model.specs.Messages.{require_within_limit, content_by, content_signature, message_by}
 use Rattle.mls_model.specs.Make.{Made, MadePath, new_path, no_path, welcome_if}
 
 -- a path for a commit with these extensions, where one is wanted or required, else none
@@ -37,7 +37,7 @@ commit_from_change c m said signature used e made seed change = do
   let epoch = epoch_secret joiner (group_context.spell change.context)
   let tag = confirmation_tag epoch change.context.confirmed_transcript_hash
   let bytes = message_by m (signed_with said signature tag)
-  is_within_limit bytes
+  require_within_limit bytes
   welcome ← welcome_if c m change made joiner tag seed (zip (adds used) e.added)
   Ok (record {
     commit = bytes;

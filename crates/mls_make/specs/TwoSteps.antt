@@ -22,7 +22,7 @@ use Rattle.mls_model.specs.PublicState.{PublicState, Used}
 use Rattle.mls_model.specs.Proposals.{adds}
 use Rattle.mls_model.specs.Commit.{Edits, Change, public_with}
 use Rattle.mls_model.specs.Member.{Member, with_keys}
-use Rattle.mls_model.specs.Messages.{is_within_limit, content_by, content_signature, message_by}
+use Rattle.mls_model.specs.Messages.{require_within_limit, content_by, content_signature, message_by}
 use Rattle.mls_model.specs.Make.{Made, MadePath, welcome_if}
 use Rattle.mls_model.specs.Welcome.{unsigned_info, signed_info, welcome_message}
 use Rattle.mls_commit.specs.Change.{change_of}
@@ -61,7 +61,7 @@ send_commit c m carried commit e t secret = do
   let epoch = epoch_secret joiner (group_context.spell change.context)
   let tag = confirmation_tag epoch change.context.confirmed_transcript_hash
   let bytes = message_by m (signed_with said signature tag)
-  is_within_limit bytes
+  require_within_limit bytes
   Ok (record { message = bytes; change = change; joiner = joiner; epoch = epoch; tag = tag })
 
 -- a Welcome for those that are added to a group, where there are any, from the member at a leaf (RFC 9420, 12.4.3.1)

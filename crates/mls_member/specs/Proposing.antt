@@ -11,7 +11,7 @@ use Rattle.mls_leaf.specs.declared.proposal.Proposal.{Proposal}
 use Rattle.mls_suite.specs.Crypto.{Crypto}
 use Rattle.mls_tree.specs.Tree.{member_at}
 use Rattle.mls_model.specs.Member.{KeptProposal, Member, kept_under, with_kept}
-use Rattle.mls_model.specs.Messages.{is_within_limit, message_by, reference_of}
+use Rattle.mls_model.specs.Messages.{require_within_limit, message_by, reference_of}
 use Rattle.mls_model.specs.Propose.{proposal_by, keep_once, updated_leaf, propose_add, propose_update, propose_remove, propose_extensions}
 use Rattle.mls_public_group.specs.ProposalChecks.{member_check}
 use Rattle.mls_message.specs.declared.said_proposal.SaidProposal.{SaidProposal}
@@ -35,7 +35,7 @@ keep_sent_proposal m message reference said own_key = Ok (message, with_kept m (
 -- a proposal whose checks have passed is sent and kept: 6 its message is too large, 49 another message is kept under its
 -- reference (RFC 9420, 12.1)
 abbrev pub send_and_keep : Crypto → Member → Proposal → Option (List ℕ) → Result (List ℕ × Member) ℕ
-send_and_keep c m said own_key = is_within_limit (message_by m (proposal_by c m said)) >> keep_once m (kept_as c m said own_key) (kept_under m.kept (reference_of (proposal_by c m said)))
+send_and_keep c m said own_key = require_within_limit (message_by m (proposal_by c m said)) >> keep_once m (kept_as c m said own_key) (kept_under m.kept (reference_of (proposal_by c m said)))
 
 -- the leaf of an update, where the member has one (RFC 9420, 12.1.2)
 abbrev pub updated_answer : Crypto → Member → List ℕ → Result LeafNode ℕ

@@ -10,7 +10,7 @@ use Rattle.mls_types.specs.declared.content.FramedContent.{FramedContent}
 use Rattle.mls_types.specs.declared.signed.SignedContent.{SignedContent}
 use Rattle.mls_suite.specs.Crypto.{Crypto}
 use Rattle.mls_model.specs.Member.{Member}
-use Rattle.mls_model.specs.Messages.{is_within_limit, content_by, content_signature, content_tag, message_by, reference_of}
+use Rattle.mls_model.specs.Messages.{require_within_limit, content_by, content_signature, content_tag, message_by, reference_of}
 use Rattle.mls_model.specs.Propose.{proposal_by}
 use Rattle.mls_public_group.specs.MessageLimit.{limited_text}
 use Rattle.mls_message.specs.Speaks.{Speaks}
@@ -19,7 +19,7 @@ use Rattle.mls_message.specs.declared.speaker.Speaker.{Speaker}
 
 -- whatever its signature and its confirmation tag are, the message of a content is refused with this number, memory aside
 abbrev pub IsRefused : Member → FramedContent → LeafError → Type 0
-IsRefused m said e = number_of e ≢ 1 → (signature tag : List ℕ) → is_within_limit (message_by m (signed_with said signature tag)) ≡ Err (number_of e)
+IsRefused m said e = number_of e ≢ 1 → (signature tag : List ℕ) → require_within_limit (message_by m (signed_with said signature tag)) ≡ Err (number_of e)
 
 -- the speaker says this content in its epoch
 abbrev pub IsSaidBy : Speaker → Content → FramedContent → Type 0

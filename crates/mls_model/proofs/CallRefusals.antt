@@ -33,7 +33,7 @@ use Rattle.mls_model.specs.PublicState.{provisional_context}
 use Rattle.mls_model.specs.Proposals.{proposal_checks, adds, extended, is_path_required}
 use Rattle.mls_model.specs.Commit.{Edits, Change, apply_proposals, change_after_edits, public_with}
 use Rattle.mls_model.specs.Member.{KeptProposal, Member, kept_under, find_proposals}
-use Rattle.mls_model.specs.Messages.{are_bytes, is_within_limit, content_by, content_signature, message_by, reference_of}
+use Rattle.mls_model.specs.Messages.{are_bytes, require_within_limit, content_by, content_signature, message_by, reference_of}
 use Rattle.mls_model.specs.Candidate.{leaf_key_of, unsigned_package, signed_package, package_message, first_context, new_candidate, create_group}
 use Rattle.mls_model.specs.Propose.{proposal_by, keep_once, updated_leaf, make_proposal, propose_add, propose_update, propose_remove, propose_extensions}
 use Rattle.mls_model.specs.Welcome.{unsigned_info, signed_info, secrets_with, entry_for, entries_for, welcome_message}
@@ -43,8 +43,8 @@ use Rattle.mls_model.proofs.RefusedSteps.{is_one, widen, bind_refused, then_refu
 use Rattle.mls_model.proofs.RefusalLaws.{add_refused, update_refused, remove_refused, extensions_pass, replaced_refused, merge_refused, edited_refused, after_edits_refused}
 use Rattle.mls_model.proofs.VerdictRefusals.{used_refused}
 
-limit_refused : (bytes : List ℕ) (n : ℕ) → is_within_limit bytes ≡ Err n → 6 ≡ n
-unfolding is_within_limit
+limit_refused : (bytes : List ℕ) (n : ℕ) → require_within_limit bytes ≡ Err n → 6 ≡ n
+unfolding require_within_limit
 limit_refused bytes n h = last_refused 6 (nat_le (length bytes) input_limit && are_bytes bytes) n h
 
 -- ---- proposals
@@ -61,7 +61,7 @@ proposed_refused c m said own ns n long gone taken checks h =
     let new : KeptProposal = record { reference = reference_of v; message = message_by m v; proposal = said; sender = m.keys.leaf; own_key = own } in
     test_refused 40 (not m.gone) _ n h (is_one ns 40 n gone) (λ h1.
     then_refused (proposal_checks c m.public m.keys.leaf said) _ n h1 checks (λ h2.
-    then_refused (is_within_limit (message_by m v)) _ n h2 (λ e. is_one ns 6 n long (limit_refused (message_by m v) n e)) (λ h3.
+    then_refused (require_within_limit (message_by m v)) _ n h2 (λ e. is_one ns 6 n long (limit_refused (message_by m v) n e)) (λ h3.
     is_one ns 49 n taken (kept_refused m new (kept_under m.kept (reference_of v)) n h3))))
 
 pub propose_add_refused : AddNumbers
@@ -95,13 +95,13 @@ unfolding new_candidate has
 candidate_refused c identity seed n h =
     let offered = signed_package c (sign_seed seed) (unsigned_package c identity seed) in
     test_refused 57 (not (bytes_eq offered.init_key offered.leaf_node.encryption_key)) _ n h (is_one (6 ∷ 57 ∷ []) 57 n refl) (λ h1.
-    then_refused (is_within_limit (package_message offered)) _ n h1 (λ e. is_one (6 ∷ 57 ∷ []) 6 n refl (limit_refused (package_message offered) n e)) (λ never. absurd cc))
+    then_refused (require_within_limit (package_message offered)) _ n h1 (λ e. is_one (6 ∷ 57 ∷ []) 6 n refl (limit_refused (package_message offered) n e)) (λ never. absurd cc))
 
 pub create_refused : CreateNumbers
 unfolding create_group has
 create_refused c k group seed n h =
     let context = group_context.spell (first_context c group (Leaf (Some k.offered.leaf_node))) in
-    then_refused (is_within_limit context) _ n h (λ e. is_one (6 ∷ []) 6 n refl (limit_refused context n e)) (λ never. absurd cc)
+    then_refused (require_within_limit context) _ n h (λ e. is_one (6 ∷ []) 6 n refl (limit_refused context n e)) (λ never. absurd cc)
 
 -- ---- commits
 
@@ -133,10 +133,10 @@ welcome_refused : (c : Crypto) (info : GroupInfo) (joiner : List ℕ) (secrets r
 unfolding welcome_message has
 welcome_refused c info joiner secrets rnd i xs n h =
     let hidden = c.aead_seal (welcome_key joiner) (welcome_nonce joiner) [] (group_info.spell info) in
-    then_refused (is_within_limit (group_info.spell info)) _ n h (λ e. is_one make_numbers 6 n refl (limit_refused (group_info.spell info) n e)) (λ h1.
+    then_refused (require_within_limit (group_info.spell info)) _ n h (λ e. is_one make_numbers 6 n refl (limit_refused (group_info.spell info) n e)) (λ h1.
     bind_refused (entries_for c hidden secrets rnd i xs) _ n h1 (λ e. is_one make_numbers 36 n refl (entries_refused c hidden secrets rnd i xs n e)) (λ entries h2.
     let whole_message = mls_message.spell (message.Welcome (record { cipher_suite = c.number; secrets = entries; encrypted_group_info = hidden })) in
-    then_refused (is_within_limit whole_message) _ n h2 (λ e. is_one make_numbers 6 n refl (limit_refused whole_message n e)) (λ never. absurd cc)))
+    then_refused (require_within_limit whole_message) _ n h2 (λ e. is_one make_numbers 6 n refl (limit_refused whole_message n e)) (λ never. absurd cc)))
 
 welcomes_refused : (c : Crypto) (m : Member) (change : Change) (made : MadePath) (joiner tag seed : List ℕ) (xs : List (KeyPackage × ℕ)) (n : ℕ) → welcome_if c m change made joiner tag seed xs ≡ Err n → has make_numbers n ≡ true
 welcomes_refused c m change made joiner tag seed [] n h = absurd cc
@@ -165,5 +165,5 @@ make_refused c m list wants_path seed n h =
     let joiner = joiner_secret (init_secret m.epoch) made.climb.secret (group_context.spell change.context) in
     let epoch = epoch_secret joiner (group_context.spell change.context) in
     let tag = confirmation_tag epoch change.context.confirmed_transcript_hash in
-    then_refused (is_within_limit (message_by m (signed_with said signature tag))) _ n h7 (λ g. is_one make_numbers 6 n refl (limit_refused (message_by m (signed_with said signature tag)) n g)) (λ h8.
+    then_refused (require_within_limit (message_by m (signed_with said signature tag))) _ n h7 (λ g. is_one make_numbers 6 n refl (limit_refused (message_by m (signed_with said signature tag)) n g)) (λ h8.
     bind_refused (welcome_if c m change made joiner tag seed (zip (adds used) e.added)) _ n h8 (welcomes_refused c m change made joiner tag seed (zip (adds used) e.added) n) (λ welcome never. absurd cc)))))))))

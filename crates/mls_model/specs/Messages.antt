@@ -37,8 +37,8 @@ unfoldable pub are_bytes : List ℕ → Bool
 are_bytes bytes = list_all (λ (b : ℕ). nat_lt b 256) bytes
 
 -- the check of bytes that were made: `TooLong` (6) they are more than a message may have, or not bytes
-unfoldable pub is_within_limit : List ℕ → Result Passed ℕ
-is_within_limit bytes = require 6 (nat_le (length bytes) input_limit && are_bytes bytes)
+unfoldable pub require_within_limit : List ℕ → Result Passed ℕ
+require_within_limit bytes = require 6 (nat_le (length bytes) input_limit && are_bytes bytes)
 
 -- the PublicMessage that a message is (RFC 9420, 6)
 abbrev pub public_in : MlsMessage → Option PublicMessage

@@ -100,7 +100,7 @@ pub(crate) fn print_member(
     print_epoch(rt, alloc, part, member.secrets())?;
     print_keys(rt, alloc, part, member)?;
     print_saved(rt, alloc, part, member)?;
-    print_found(rt, alloc, part, "kept", member.kept(reference))?;
+    print_found(rt, alloc, part, "kept", member.kept_message(reference))?;
     match member.pending_secret() {
         Some(secret) => print_bytes(rt, alloc, part, "pending_secret", secret),
         None => print_found(rt, alloc, part, "pending_secret", None),

@@ -5,11 +5,11 @@ use Rattle.mls_wire.specs.Format.{Format}
 use Rattle.mls_leaf.specs.Faults.{number_of}
 use Rattle.mls_leaf.specs.Limits.{input_limit}
 use Rattle.mls_leaf.specs.declared.error.LeafError.{LeafError}
-use Rattle.mls_model.specs.Messages.{is_within_limit}
+use Rattle.mls_model.specs.Messages.{require_within_limit}
 
 -- the text, or 6 where it is larger than a message may be
 abbrev pub limited_text : List ℕ → Result (List ℕ) ℕ
-limited_text bytes = is_within_limit bytes >> Ok bytes
+limited_text bytes = require_within_limit bytes >> Ok bytes
 
 -- the numbers of the value are in range: it has a spelling, unless a vector in it is too long
 abbrev pub FitsIfShort : {V : Type 0} → Format V → V → Type 0

@@ -19,7 +19,7 @@ use Rattle.mls_model.specs.Invariant.{IsGoodBy, IsGoodWorld}
 use Rattle.mls_model.specs.Journal.{CommitMade, new_journal}
 use Rattle.mls_model.specs.Lineage.{IsReached}
 use Rattle.mls_model.specs.Member.{Member}
-use Rattle.mls_model.specs.Messages.{is_within_limit}
+use Rattle.mls_model.specs.Messages.{require_within_limit}
 use Rattle.mls_model.specs.JournalState.{Creations}
 use Rattle.mls_model.specs.World.{World, Entrant, Seat, entrant_at}
 use Rattle.mls_theorems.proofs.Committed.{created_good}
@@ -35,7 +35,7 @@ use Rattle.mls_theorems.proofs.Sources.{bytes_within}
 -- what is said of a new one
 record NewDid (c : Crypto) (seed : List ℕ) (k : Candidate) : Type 0 where
   key : k.offered.leaf_node.signature_key ≡ c.sig_public (sign_seed seed)
-  within : is_within_limit (package_message k.offered) ≡ Ok passed
+  within : require_within_limit (package_message k.offered) ≡ Ok passed
 
 new_did : (c : Crypto) (identity seed : List ℕ) (k : Candidate) → new_candidate c identity seed ≡ Ok k → NewDid c seed k
 unfolding new_candidate signed_package unsigned_package offered_leaf signed_leaf unsigned_leaf

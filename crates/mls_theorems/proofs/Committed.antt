@@ -32,7 +32,7 @@ use Rattle.mls_model.specs.MemberInvariant.{NodeFits, IsGoodMember, IsGoodCandid
 use Rattle.mls_model.specs.Candidate.{Candidate, first_context, create_group}
 use Rattle.mls_model.specs.Make.{commit_call}
 use Rattle.mls_model.specs.Member.{Member}
-use Rattle.mls_model.specs.Messages.{is_within_limit}
+use Rattle.mls_model.specs.Messages.{require_within_limit}
 use Rattle.mls_schedule.specs.Epoch.{confirmation_tag}
 use Rattle.mls_schedule.specs.Transcript.{interim_hash}
 use Rattle.mls_checks.proofs.LeafLaws.{package_steps}
@@ -104,7 +104,7 @@ first_member c k group seed = record {
   pending = None;
 }
 
-first_good : (c : Crypto) (k : Candidate) (group seed : List ℕ) → IsGoodCandidate c k → is_within_limit (group_context.spell (first_context c group (Leaf (Some k.offered.leaf_node)))) ≡ Ok passed → IsGoodMember c (first_member c k group seed)
+first_good : (c : Crypto) (k : Candidate) (group seed : List ℕ) → IsGoodCandidate c k → require_within_limit (group_context.spell (first_context c group (Leaf (Some k.offered.leaf_node)))) ≡ Ok passed → IsGoodMember c (first_member c k group seed)
 unfolding first_member first_context
 first_good c k group seed good low =
     let short = within_is _ low in

@@ -28,7 +28,7 @@ use Rattle.mls_model.specs.Invariant.{IsRecorded, IsGoodBy, IsGoodWorld}
 use Rattle.mls_model.specs.Journal.{CommitMade, names_in, list_in}
 use Rattle.mls_model.specs.Make.{MadePath, Made, make, welcome_if}
 use Rattle.mls_model.specs.Member.{Member, Pending, with_pending}
-use Rattle.mls_model.specs.Messages.{is_within_limit}
+use Rattle.mls_model.specs.Messages.{require_within_limit}
 use Rattle.mls_model.specs.JournalState.{Creations}
 use Rattle.mls_model.specs.EventRange.{IsItemInRange}
 use Rattle.mls_model.specs.Welcome.{entries_for, welcome_message}
@@ -48,15 +48,15 @@ use Rattle.mls_theorems.proofs.Sources.{bytes_within, items_fit}
 
 -- ---- its messages
 
-welcome_within : (c : Crypto) (info : GroupInfo) (joiner : List ℕ) (secrets rnd : ℕ → List ℕ) (n : ℕ) (joiners : List (KeyPackage × ℕ)) (bytes : List ℕ) → welcome_message c info joiner secrets rnd n joiners ≡ Ok bytes → is_within_limit bytes ≡ Ok passed
+welcome_within : (c : Crypto) (info : GroupInfo) (joiner : List ℕ) (secrets rnd : ℕ → List ℕ) (n : ℕ) (joiners : List (KeyPackage × ℕ)) (bytes : List ℕ) → welcome_message c info joiner secrets rnd n joiners ≡ Ok bytes → require_within_limit bytes ≡ Ok passed
 unfolding welcome_message
 welcome_within c info joiner secrets rnd n joiners bytes h =
     let sealed : List ℕ = c.aead_seal (welcome_key joiner) (welcome_nonce joiner) [] (group_info.spell info) in
-    let s1 = then_ok (is_within_limit (group_info.spell info)) _ _ h in
+    let s1 = then_ok (require_within_limit (group_info.spell info)) _ _ h in
     let s2 = bind_ok (entries_for c sealed secrets rnd n joiners) _ _ s1.1 in
     let out : List ℕ = mls_message.spell (message.Welcome (record { cipher_suite = c.number; secrets = s2.0; encrypted_group_info = sealed })) in
-    let s3 = then_ok (is_within_limit out) _ _ s2.2 in
-    subst (λ (b : List ℕ). is_within_limit b ≡ Ok passed) (ok_is out bytes s3.1) s3.0
+    let s3 = then_ok (require_within_limit out) _ _ s2.2 in
+    subst (λ (b : List ℕ). require_within_limit b ≡ Ok passed) (ok_is out bytes s3.1) s3.0
 
 one_some : (o : Option (List ℕ)) (x y : List ℕ) → some x ≡ o → o ≡ Some y → x ≡ y
 one_some o x y a b = cc
@@ -64,15 +64,15 @@ one_some o x y a b = cc
 none_some : (o : Option (List ℕ)) (y : List ℕ) → None ≡ o → o ≡ Some y → ⊥
 none_some o y a b = cc
 
-if_within : (c : Crypto) (m : Member) (change : Change) (made : MadePath) (joiner tag seed : List ℕ) (joiners : List (KeyPackage × ℕ)) (o : Option (List ℕ)) (bytes : List ℕ) → welcome_if c m change made joiner tag seed joiners ≡ Ok o → o ≡ Some bytes → is_within_limit bytes ≡ Ok passed
+if_within : (c : Crypto) (m : Member) (change : Change) (made : MadePath) (joiner tag seed : List ℕ) (joiners : List (KeyPackage × ℕ)) (o : Option (List ℕ)) (bytes : List ℕ) → welcome_if c m change made joiner tag seed joiners ≡ Ok o → o ≡ Some bytes → require_within_limit bytes ≡ Ok passed
 if_within c m change made joiner tag seed [] o bytes h e = absurd (none_some o bytes (ok_is None o h) e)
 if_within c m change made joiner tag seed (x ∷ xs) o bytes h e =
     let s = bind_ok _ _ _ h in
-    subst (λ (b : List ℕ). is_within_limit b ≡ Ok passed) (one_some o s.0 bytes (ok_is (some s.0) o s.2) e) (welcome_within c _ joiner _ _ _ (x ∷ xs) s.0 s.1)
+    subst (λ (b : List ℕ). require_within_limit b ≡ Ok passed) (one_some o s.0 bytes (ok_is (some s.0) o s.2) e) (welcome_within c _ joiner _ _ _ (x ∷ xs) s.0 s.1)
 
 record MadeWithin (made : Made) : Type 0 where
-  commit : is_within_limit made.commit ≡ Ok passed
-  welcome : (bytes : List ℕ) → made.welcome ≡ Some bytes → is_within_limit bytes ≡ Ok passed
+  commit : require_within_limit made.commit ≡ Ok passed
+  welcome : (bytes : List ℕ) → made.welcome ≡ Some bytes → require_within_limit bytes ≡ Ok passed
 
 made_within : (c : Crypto) (m : Member) (list : List ProposalOrRef) (wants_path : Bool) (seed : List ℕ) (made : Made) → Makes c m list wants_path seed made → MadeWithin made
 unfolding made_of

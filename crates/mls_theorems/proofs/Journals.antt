@@ -29,7 +29,7 @@ use Rattle.mls_model.specs.Journal.{Entry, names_in, list_in, entry_of}
 use Rattle.mls_model.specs.Lineage.{IsSameState}
 use Rattle.mls_model.specs.Make.{make, commit_call}
 use Rattle.mls_model.specs.Member.{KeptProposal, Pending, Member, kept_under, with_kept, with_epoch, with_pending, without_pending}
-use Rattle.mls_model.specs.Messages.{decode_message, reference_of, is_within_limit, message_by}
+use Rattle.mls_model.specs.Messages.{decode_message, reference_of, require_within_limit, message_by}
 use Rattle.mls_model.specs.OpenedWelcome.{Opened, opened_welcome}
 use Rattle.mls_model.specs.Proposals.{proposal_checks}
 use Rattle.mls_model.specs.Propose.{proposal_by, keep_once, make_proposal}
@@ -229,7 +229,7 @@ unfolding make_proposal
 proposed_same c m said own_key x h =
     let s1 = require_ok 40 (not m.gone) _ _ h in
     let s2 = then_ok (proposal_checks c m.public m.keys.leaf said) _ _ s1.1 in
-    let s3 = then_ok (is_within_limit (message_by m (proposal_by c m said))) _ _ s2.1 in
+    let s3 = then_ok (require_within_limit (message_by m (proposal_by c m said))) _ _ s2.1 in
     once_same m _ (kept_under m.kept (reference_of (proposal_by c m said))) x s3.1
 
 committed_same : (c : Crypto) (m : Member) (list : List ProposalOrRef) (wants_path : Bool) (seed : List ℕ) (x : (List ℕ × Option (List ℕ)) × Member) → commit_call c m list wants_path seed ≡ Ok x → IsSameState m x.1

@@ -35,7 +35,7 @@ use Rattle.mls_tree.specs.Tree.{member_at}
 use Rattle.mls_model.specs.MemberInvariant.{HasOwnKey, IsGoodKept, IsGoodMember}
 use Rattle.mls_model.specs.Candidate.{leaf_key_of, unsigned_leaf, signed_leaf}
 use Rattle.mls_model.specs.Member.{KeptProposal, Member, kept_under}
-use Rattle.mls_model.specs.Messages.{decode_message, is_within_limit, content_by, content_tag, message_by, reference_of}
+use Rattle.mls_model.specs.Messages.{decode_message, require_within_limit, content_by, content_tag, message_by, reference_of}
 use Rattle.mls_model.specs.Proposals.{proposal_checks}
 use Rattle.mls_model.specs.Propose.{proposal_by, keep_once, make_proposal, propose_add, updated_leaf, propose_update, propose_remove, propose_extensions}
 use Rattle.mls_theorems.proofs.Fit.{short_first, short_last, short_text, made_leaf_fits, update_source_fits}
@@ -92,7 +92,7 @@ sent_fits : (c : Crypto) (m : Member) (x : Proposal) → IsGoodMember c m → Fi
 unfolding sent_as
 sent_fits c m x good fits lt = message_fits (proposal_by c m x) (content_tag m.epoch (proposal_by c m x) m.public.context) (by_fits c m x good fits) lt
 
-proposal_reads : (c : Crypto) (m : Member) (x : Proposal) → IsGoodMember c m → FitsIfShort x → is_within_limit (message_by m (proposal_by c m x)) ≡ Ok passed → ReadsBack (message_by m (proposal_by c m x)) (sent_as c m x)
+proposal_reads : (c : Crypto) (m : Member) (x : Proposal) → IsGoodMember c m → FitsIfShort x → require_within_limit (message_by m (proposal_by c m x)) ≡ Ok passed → ReadsBack (message_by m (proposal_by c m x)) (sent_as c m x)
 unfolding decode_message
 proposal_reads c m x good fits h =
     let short : length (mls_message.spell (message.PublicMessage (sent_as c m x))) ≤ input_limit = subst (λ (b : List ℕ). length b ≤ input_limit) (sent_is c m x) (within_is _ h) in

@@ -37,7 +37,7 @@ use Rattle.mls_tree_model.specs.Term.{Term, width, leaf_at, leaf_of}
 use Rattle.mls_model.specs.Candidate.{unsigned_leaf, signed_leaf}
 use Rattle.mls_model.specs.Commit.{Edits, Change}
 use Rattle.mls_model.specs.Member.{Member}
-use Rattle.mls_model.specs.Messages.{decode_message, is_within_limit, content_by, content_tag, message_by}
+use Rattle.mls_model.specs.Messages.{decode_message, require_within_limit, content_by, content_tag, message_by}
 use Rattle.mls_model.specs.Make.{MadePath, Made, committed_leaf, new_path, no_path}
 use Rattle.mls_model.specs.MemberInvariant.{IsGoodMember}
 use Rattle.mls_wire.specs.CheckLaws.{required}
@@ -181,8 +181,8 @@ made_content_fits c m list path change good listed leaf lt =
     content_fits m.public.context.group_id m.public.context.epoch m.keys.leaf (record { proposals = list; path = path.path }) (signature_of c m list path) (tag_of m path change)
     k.group k.epoch (leaf_short c m good) (commit_fits (record { proposals = list; path = path.path }) listed leaf) lt
 
-pub within_is : (bytes : List ℕ) → is_within_limit bytes ≡ Ok passed → length bytes ≤ input_limit
-unfolding is_within_limit
+pub within_is : (bytes : List ℕ) → require_within_limit bytes ≡ Ok passed → length bytes ≤ input_limit
+unfolding require_within_limit
 within_is bytes h = leb-true _ _ (and_parts _ _ (required _ _ _ h)).0
 
 sent_fits : (c : Crypto) (m : Member) (list : List ProposalOrRef) (path : MadePath) (change : Change) → IsGoodMember c m → AllByRecursion proposal_or_ref.Fits list → LeafFitsIfShort path.path →

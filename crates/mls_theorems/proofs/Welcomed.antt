@@ -27,7 +27,7 @@ use Rattle.mls_suite.specs.Labels.{encrypt_with_label, decrypt_with_label}
 use Rattle.mls_suite.proofs.LabelLaws.{opens_sealed}
 use Rattle.mls_schedule.specs.Epoch.{welcome_key, welcome_nonce}
 use Rattle.mls_model.specs.Candidate.{Candidate}
-use Rattle.mls_model.specs.Messages.{decode_message, are_bytes, is_within_limit}
+use Rattle.mls_model.specs.Messages.{decode_message, are_bytes, require_within_limit}
 use Rattle.mls_model.specs.OpenedWelcome.{is_none_or_32, opened_secrets, Opened, opened_welcome}
 use Rattle.mls_model.specs.Proposals.{package_reference}
 use Rattle.mls_model.specs.Welcome.{secrets_with, entry_for, welcome_message}
@@ -39,8 +39,8 @@ use Rattle.mls_theorems.proofs.Sent.{within_is}
 use Rattle.mls_theorems.specs.OpenedWelcomes.{encrypted_info, welcome_of, WelcomeDid, WelcomeReads, SecretsOpen, WelcomeOpens}
 use Rattle.std.proofs.lemmas.Bool.{and_parts}
 
-bytes_are : (bytes : List ℕ) → is_within_limit bytes ≡ Ok passed → are_bytes bytes ≡ true
-unfolding is_within_limit
+bytes_are : (bytes : List ℕ) → require_within_limit bytes ≡ Ok passed → are_bytes bytes ≡ true
+unfolding require_within_limit
 bytes_are bytes h = (and_parts _ _ (required _ _ _ h)).1
 
 pub welcome_did : WelcomeDid

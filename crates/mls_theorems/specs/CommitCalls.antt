@@ -14,7 +14,7 @@ use Rattle.mls_model.specs.PublicState.{Used}
 use Rattle.mls_model.specs.Proposals.{adds, extended, is_path_required}
 use Rattle.mls_model.specs.Commit.{Edits, Change, apply_proposals, change_of_commit, public_with}
 use Rattle.mls_model.specs.Member.{Member, find_proposals, with_keys}
-use Rattle.mls_model.specs.Messages.{is_within_limit, content_by, content_signature, message_by}
+use Rattle.mls_model.specs.Messages.{require_within_limit, content_by, content_signature, message_by}
 use Rattle.mls_model.specs.Make.{MadePath, Made, new_path, no_path, welcome_if, make}
 
 -- ---- what is made of a list and a path
@@ -78,7 +78,7 @@ pub record Makes (c : Crypto) (m : Member) (list : List ProposalOrRef) (wants_pa
   pub change : Change
   pub change_is : change_of_commit c m.public m.keys.leaf used (commit_of list path) (said_of m list path)
       (signature_of c m list path) ≡ Ok change
-  pub short : is_within_limit (message_of c m list path change) ≡ Ok passed
+  pub short : require_within_limit (message_of c m list path change) ≡ Ok passed
   pub welcome : Option (List ℕ)
   pub welcome_is : welcome_if c m change path (joiner_of m path change)
       (tag_of m path change) seed (zip (adds used) edits.added) ≡ Ok welcome

@@ -11,7 +11,7 @@ use Rattle.mls_treekem_model.specs.Make.{climb_to, made_keys}
 use Rattle.mls_treekem_model.specs.Follow.{key_above, keys_on_way, follow_edit}
 use Rattle.mls_treekem_model.specs.Height.{keys_on, as_pairs}
 use Rattle.mls_treekem_model.specs.Join.{is_complete}
-use Rattle.mls_treekem_model.specs.Keys.{Keys, Fits, Exact, PrivateKeys, all_keys, leaf_only, key_in}
+use Rattle.mls_treekem_model.specs.Keys.{Keys, HoldsDueKey, Exact, PrivateKeys, all_keys, leaf_only, key_in}
 use Rattle.mls_treekem_model.specs.Members.{HasExact, KeysMerged, with_nodes, ExactReceived, MadeReceived, ShownAreDue, ExactAlone, ExactFollowed, ExactMade, ExactOpened, ExactTaken, ExactUpdated, ExactWhole}
 use Rattle.mls_treekem_model.specs.Open.{opened_secret, opened_path}
 use Rattle.mls_treekem_model.specs.Pairs.{pairs, find_key, IsInOrder}
@@ -58,7 +58,7 @@ way_long t i x keys = ap length (way_merge 0 t i (reverse keys) [] x) ∙ length
 
 pub exact_whole : ExactWhole
 exact_whole c t p e =
-    let long : length (all_keys p) ≡ suc (length (way 0 t p.leaf)) = along_length c (Fits c p.leaf) (way 0 t p.leaf) (leaf_at 0 t p.leaf) (all_keys p) e in
+    let long : length (all_keys p) ≡ suc (length (way 0 t p.leaf)) = along_length c (HoldsDueKey c p.leaf) (way 0 t p.leaf) (leaf_at 0 t p.leaf) (all_keys p) e in
     record {
       keys = subst (λ (ks : Keys). Exact c 0 t p.leaf ks) (sym (exact_is_on_way c 0 t p.leaf (all_keys p) e)) e;
       low = omega (arith, length-end p.above (Some p.own));

@@ -21,10 +21,10 @@ HoldsKey c false p None = ⊥
 HoldsKey c false p (Some k) = c.public k ≡ p.encryption_key
 
 -- the key that is held by member j at a parent that may be blank is as it must be: at a blank one none is
-abbrev pub Fits : Crypto → ℕ → Option Parent → Option (List ℕ) → Type 0
-Fits c j None None = Unit {0}
-Fits c j None (Some k) = ⊥
-Fits c j (Some p) o = HoldsKey c (has p.unmerged_leaves j) p o
+abbrev pub HoldsDueKey : Crypto → ℕ → Option Parent → Option (List ℕ) → Type 0
+HoldsDueKey c j None None = Unit {0}
+HoldsDueKey c j None (Some k) = ⊥
+HoldsDueKey c j (Some p) o = HoldsKey c (has p.unmerged_leaves j) p o
 
 -- what is left of the keys at a leaf is its private key alone
 abbrev pub IsOwnKey : Crypto → Option LeafNode → Keys → Type 0
@@ -47,7 +47,7 @@ AreKeysOnWay c F b t j ks = AreKeysAlong c F (way b t j) (leaf_at b t j) ks
 -- member j of a tree whose first leaf is b has a key exactly at its leaf and at each parent over it that isn't blank
 -- and doesn't list it, and there the one whose public key is the node's (RFC 9420, 7.5 and 7.6)
 abbrev pub Exact : Crypto → ℕ → Term → ℕ → Keys → Type 0
-Exact c b t j ks = AreKeysOnWay c (Fits c j) b t j ks
+Exact c b t j ks = AreKeysOnWay c (HoldsDueKey c j) b t j ks
 
 -- all but the first of a list
 abbrev pub rest : {A : Type 0} → List A → List A

@@ -15,7 +15,7 @@ use Rattle.mls_tree.specs.Paths.{path_checks, path_hash_answer}
 use Rattle.mls_tree.proofs.Perfect.{perfect, width_is}
 use Rattle.mls_treekem_model.specs.Follow.{key_above, keys_on_way, follow_edit}
 use Rattle.mls_treekem_model.specs.Height.{keys_on, HasFollowed}
-use Rattle.mls_treekem_model.specs.Keys.{Keys, PrivateKeys, all_keys, AreKeysAlong, Fits, Exact}
+use Rattle.mls_treekem_model.specs.Keys.{Keys, PrivateKeys, all_keys, AreKeysAlong, HoldsDueKey, Exact}
 use Rattle.mls_treekem_model.specs.Make.{made_keys, HasMade}
 use Rattle.mls_treekem_model.proofs.MemberLaws.{keys_merged}
 use Rattle.mls_treekem_model.specs.Whole.{keys_of_path}
@@ -76,12 +76,12 @@ hash_is t i keys h e = let s = then_ok (path_checks t i (length keys)) (Ok (path
 
 -- ---- keys that are followed onto the tree with the path
 
-fit_stays : (c : Crypto) (j : ℕ) (p : Option Parent) (o : Option (List ℕ)) → Fits c j p o → (if is_some p then o else None) ≡ o
+fit_stays : (c : Crypto) (j : ℕ) (p : Option Parent) (o : Option (List ℕ)) → HoldsDueKey c j p o → (if is_some p then o else None) ≡ o
 fit_stays c j None None h = refl
 fit_stays c j None (Some k) h = absurd h
 fit_stays c j (Some p) o h = refl
 
-follow_stays : (c : Crypto) (j : ℕ) (ss : List Step) (x : Option LeafNode) (ks : Keys) → AreKeysAlong c (Fits c j) ss x (keys_on_way ss ks) → follow_edit None ss ks ≡ keys_on_way ss ks
+follow_stays : (c : Crypto) (j : ℕ) (ss : List Step) (x : Option LeafNode) (ks : Keys) → AreKeysAlong c (HoldsDueKey c j) ss x (keys_on_way ss ks) → follow_edit None ss ks ≡ keys_on_way ss ks
 unfolding follow_edit keys_on_way AreKeysAlong
 follow_stays c j [] x ks h = refl
 follow_stays c j (s ∷ ss) x ks h = ap₂ (λ o zs. o ∷ zs) (fit_stays c j s.parent (key_above (suc (length ss)) ks) h.0) (follow_stays c j ss x ks h.1)

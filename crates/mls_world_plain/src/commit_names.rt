@@ -51,7 +51,7 @@ fn name_of<'a, T: Listed, S: Suite>(member: &'a Member<S>, listed: &T) -> Option
     ensures { option_copied result ≡ name_of member.now.kept (T.listed listed.now) }
 {
     match listed.reference() {
-        Some(reference) => member.kept(reference),
+        Some(reference) => member.kept_message(reference),
         None => None,
     }
 }
