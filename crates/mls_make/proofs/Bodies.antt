@@ -25,9 +25,8 @@ use Rattle.mls_model.specs.Proposals.{is_path_required}
 use Rattle.mls_model.specs.Candidate.{leaf_key_of}
 use Rattle.mls_model.specs.Commit.{Edits, apply_path_if, change_after_edits}
 use Rattle.mls_model.specs.Member.{Member}
-use Rattle.mls_model.specs.Make.{MadePath, committed_leaf, new_path, no_path}
+use Rattle.mls_model.specs.Make.{MadePath, committed_leaf, new_path, no_path, carried_after, path_if_needed, path_with}
 use Rattle.mls_commit.specs.Change.{change_of}
-use Rattle.mls_make.specs.CommitSteps.{carried_after, path_if_needed, path_with}
 
 -- ---- the body of a commit whose checks have passed
 

@@ -29,13 +29,12 @@ use Rattle.mls_model.specs.Proposals.{extended, extension_lists, extensions_in, 
 use Rattle.mls_model.specs.Commit.{Edits, apply_proposals, apply_path_if}
 use Rattle.mls_model.specs.Member.{KeptProposal, Member, find_proposal, find_proposals}
 use Rattle.mls_model.specs.Messages.{require_within_limit, message_by}
-use Rattle.mls_model.specs.Make.{MadePath, new_path, no_path}
+use Rattle.mls_model.specs.Make.{MadePath, new_path, no_path, carried_after, path_if_needed, path_with, commit_from_proposals}
 use Rattle.mls_public_group.specs.Short.{IsBelow, IsProposalBelow, AreBelow}
 use Rattle.mls_public_group.proofs.ShortLaws.{below_more, list_below}
 use Rattle.mls_message.proofs.Refusals.{refused_long}
 use Rattle.mls_update_path.proofs.OtherExtensions.{AreAlike, new_path_alike, new_path_merges}
 use Rattle.mls_make.specs.CommitCall.{HasShortParts, IsShortUsed, AreShortUsed, IsUsable, AreUsable}
-use Rattle.mls_make.specs.CommitSteps.{carried_after, path_if_needed, path_with, commit_from_proposals}
 use Rattle.mls_make.specs.LongList.{IsRefusalPast, give_long_list, gives_long_list, has_long_list}
 use Rattle.mls_make.proofs.Lengths.{back, front, commit_within, items_inside, listed_inside, named_kept}
 use Rattle.mls_make.proofs.Steps.{said_in, commit_in, path_fails, content_fails}

@@ -19,7 +19,7 @@ use Rattle.mls_model.specs.Proposals.{adds}
 use Rattle.mls_model.specs.Commit.{Edits, Change, apply_proposals, apply_path_if, public_with}
 use Rattle.mls_model.specs.Member.{Member, find_proposals, with_keys}
 use Rattle.mls_model.specs.Messages.{require_within_limit, content_by, content_signature, message_by}
-use Rattle.mls_model.specs.Make.{MadePath, Made, path_secret_for, path_seals, welcome_if, make}
+use Rattle.mls_model.specs.Make.{MadePath, Made, path_secret_for, path_seals, welcome_if, make, carried_after, path_if_needed, path_with, commit_from_change, commit_from_path, commit_from_proposals}
 use Rattle.mls_model.specs.Welcome.{unsigned_info, signed_info, secrets_with, welcome_message}
 use Rattle.mls_commit.specs.Change.{change_of}
 use Rattle.mls_public_group.specs.MessageLimit.{limited_text}
@@ -27,7 +27,6 @@ use Rattle.mls_message.specs.Speaks.{Speaks}
 use Rattle.mls_message.specs.declared.speaker.Speaker.{Speaker}
 use Rattle.mls_theorems.specs.CommitCalls.{joiner_of, epoch_of, tag_of}
 use Rattle.mls_make.proofs.Bodies.{body_is, path_due}
-use Rattle.mls_make.specs.CommitSteps.{carried_after, path_if_needed, path_with, commit_from_change, commit_from_path, commit_from_proposals}
 
 -- ---- the checks before them (RFC 9420, 12.4.1)
 

@@ -27,7 +27,7 @@ use Rattle.mls_model.specs.Proposals.{adds}
 use Rattle.mls_model.specs.Commit.{Edits, Change, apply_proposals, apply_path_if, change_after_edits, public_with}
 use Rattle.mls_model.specs.Member.{Member, with_keys}
 use Rattle.mls_model.specs.Messages.{require_within_limit, content_by, content_signature, message_by}
-use Rattle.mls_model.specs.Make.{Made, MadePath, welcome_if, path_secret_for, path_seals}
+use Rattle.mls_model.specs.Make.{Made, MadePath, welcome_if, path_secret_for, path_seals, carried_after, path_if_needed, commit_from_change, commit_from_path}
 use Rattle.mls_model.specs.Welcome.{secrets_with, unsigned_info, signed_info, welcome_message}
 use Rattle.mls_commit.specs.Change.{change_of}
 use Rattle.mls_public_group.specs.MessageLimit.{limited_text}
@@ -40,7 +40,6 @@ use Rattle.mls_welcome.specs.SentSecrets.{AreSentTo}
 use Rattle.mls_welcome.specs.declared.welcome_message.Joiner.{Joiner}
 use Rattle.mls_make.proofs.Bodies.{body_is, path_due}
 use Rattle.mls_make.proofs.Lengths.{commit_within}
-use Rattle.mls_make.specs.CommitSteps.{carried_after, path_if_needed, commit_from_change, commit_from_path}
 use Rattle.mls_make.specs.CommitCall.{AreCarriedBy}
 use Rattle.mls_make.specs.OwnPath.{IsOwn}
 use Rattle.mls_make.specs.TwoSteps.{SentCommit, send_commit, welcome_from, with_welcome}

@@ -14,7 +14,7 @@ use Rattle.mls_suite.specs.Crypto.{Crypto}
 use Rattle.mls_treekem_model.specs.Keys.{PrivateKeys}
 use Rattle.mls_treekem.specs.declared.secrets.PathSecrets.{PathSecrets}
 use Rattle.mls_model.specs.Commit.{Edits}
-use Rattle.mls_model.specs.Make.{Made, MadePath, path_seals}
+use Rattle.mls_model.specs.Make.{Made, MadePath, path_seals, commit_from_path, commit_from_proposals}
 use Rattle.mls_model.specs.Member.{KeptProposal, Member, find_proposals}
 use Rattle.mls_model.specs.Proposals.{extended}
 use Rattle.mls_model.specs.PublicState.{Used}
@@ -22,7 +22,6 @@ use Rattle.mls_public_group.specs.MessageLimit.{FitsIfShort}
 use Rattle.mls_public_group.specs.Short.{IsBelow}
 use Rattle.mls_message.specs.Speaks.{Speaks}
 use Rattle.mls_message.specs.declared.speaker.Speaker.{Speaker}
-use Rattle.mls_make.specs.CommitSteps.{commit_from_path, commit_from_proposals}
 use Rattle.mls_make.specs.Faults.{number_of}
 use Rattle.mls_make.specs.OwnPath.{made_own_path, IsOwn, IsOwnPath}
 use Rattle.mls_make.specs.TwoSteps.{sent_as, with_welcome}

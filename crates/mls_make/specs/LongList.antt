@@ -9,11 +9,10 @@ use Rattle.mls_suite.specs.Crypto.{Crypto}
 use Rattle.mls_treekem_model.specs.Keys.{PrivateKeys}
 use Rattle.mls_model.specs.PublicState.{Used}
 use Rattle.mls_model.specs.Commit.{Edits}
-use Rattle.mls_model.specs.Make.{MadePath}
+use Rattle.mls_model.specs.Make.{MadePath, path_with}
 use Rattle.mls_model.specs.Member.{Member}
 use Rattle.mls_message.specs.Speaks.{Speaks}
 use Rattle.mls_message.specs.declared.speaker.Speaker.{Speaker}
-use Rattle.mls_make.specs.CommitSteps.{path_with}
 use Rattle.mls_make.specs.Faults.{number_of}
 use Rattle.mls_make.specs.declared.error.MakeError.{MakeError}
 

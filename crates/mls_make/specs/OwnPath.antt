@@ -14,12 +14,11 @@ use Rattle.mls_treekem.specs.Secrets.{AreOfChain}
 use Rattle.mls_treekem.specs.declared.secrets.PathSecrets.{PathSecrets}
 use Rattle.mls_model.specs.PublicState.{Used}
 use Rattle.mls_model.specs.Commit.{Edits, apply_proposals, apply_path_if}
-use Rattle.mls_model.specs.Make.{MadePath, no_path}
+use Rattle.mls_model.specs.Make.{MadePath, no_path, path_if_needed, path_with}
 use Rattle.mls_model.specs.Member.{Member}
 use Rattle.mls_public_group.specs.Short.{AreBelow, HasLeavesBelow, IsBelow}
 use Rattle.mls_message.specs.Speaks.{Speaks}
 use Rattle.mls_message.specs.declared.speaker.Speaker.{Speaker}
-use Rattle.mls_make.specs.CommitSteps.{path_if_needed, path_with}
 use Rattle.mls_make.specs.Faults.{number_of}
 use Rattle.mls_make.specs.declared.error.MakeError.{MakeError}
 use Rattle.mls_make.specs.declared.own_path.OwnPath.{OwnPath}

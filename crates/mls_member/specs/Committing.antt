@@ -3,9 +3,8 @@ use Rattle.std.specs.Prelude.{ℕ, Bool, List, Option, Result, Ok}
 use Rattle.mls_wire.specs.Reading.{◌>>=◌}
 use Rattle.mls_types.specs.declared.commit.ProposalOrRef.{ProposalOrRef}
 use Rattle.mls_suite.specs.Crypto.{Crypto}
-use Rattle.mls_model.specs.Make.{Made}
+use Rattle.mls_model.specs.Make.{Made, commit_from_proposals}
 use Rattle.mls_model.specs.Member.{Member, find_proposals, with_pending}
-use Rattle.mls_make.specs.CommitSteps.{commit_from_proposals}
 
 -- what is made of a list: 60 a reference isn't kept, and then all that stands behind it
 abbrev pub made_of_list : Crypto → Member → List ProposalOrRef → Bool → List ℕ → Result Made ℕ

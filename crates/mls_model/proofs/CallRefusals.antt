@@ -37,7 +37,7 @@ use Rattle.mls_model.specs.Messages.{are_bytes, require_within_limit, content_by
 use Rattle.mls_model.specs.Candidate.{leaf_key_of, unsigned_package, signed_package, package_message, first_context, new_candidate, create_group}
 use Rattle.mls_model.specs.Propose.{proposal_by, keep_once, updated_leaf, make_proposal, propose_add, propose_update, propose_remove, propose_extensions}
 use Rattle.mls_model.specs.Welcome.{unsigned_info, signed_info, secrets_with, entry_for, entries_for, welcome_message}
-use Rattle.mls_model.specs.Make.{MadePath, committed_leaf, new_path, no_path, path_secret_for, path_seals, welcome_if, make}
+use Rattle.mls_model.specs.Make.{MadePath, committed_leaf, new_path, no_path, path_secret_for, path_seals, welcome_if, path_with, commit_from_change, commit_from_path, commit_from_proposals, make}
 use Rattle.mls_model.specs.Refusals.{add_numbers, update_numbers, remove_numbers, body_numbers, propose_add_numbers, propose_update_numbers, propose_remove_numbers, propose_extensions_numbers, make_numbers, AddNumbers, UpdateNumbers, RemoveNumbers, ExtensionsNumbers, MakeNumbers, CandidateNumbers, CreateNumbers}
 use Rattle.mls_model.proofs.RefusedSteps.{is_one, widen, bind_refused, then_refused, test_refused, last_refused, given_refused, if_refused}
 use Rattle.mls_model.proofs.RefusalLaws.{add_refused, update_refused, remove_refused, extensions_pass, replaced_refused, merge_refused, edited_refused, after_edits_refused}
@@ -147,7 +147,7 @@ welcomes_refused c m change made joiner tag seed (x ∷ xs) n h =
     (welcome_refused c info joiner secrets (seal_seed seed) (path_seals made.path) (x ∷ xs) n) (λ bytes never. absurd cc)
 
 pub make_refused : MakeNumbers
-unfolding make has
+unfolding make commit_from_proposals path_with commit_from_path commit_from_change has
 make_refused c m list wants_path seed n h =
     test_refused 40 (not m.gone) _ n h (is_one make_numbers 40 n refl) (λ h1.
     test_refused 67 (is_none m.pending) _ n h1 (is_one make_numbers 67 n refl) (λ h2.

@@ -38,7 +38,7 @@ use Rattle.mls_model.specs.Candidate.{unsigned_leaf, signed_leaf}
 use Rattle.mls_model.specs.Commit.{Edits, Change}
 use Rattle.mls_model.specs.Member.{Member}
 use Rattle.mls_model.specs.Messages.{decode_message, require_within_limit, content_by, content_tag, message_by}
-use Rattle.mls_model.specs.Make.{MadePath, Made, committed_leaf, new_path, no_path}
+use Rattle.mls_model.specs.Make.{MadePath, Made, committed_leaf, new_path, no_path, path_with}
 use Rattle.mls_model.specs.MemberInvariant.{IsGoodMember}
 use Rattle.mls_wire.specs.CheckLaws.{required}
 use Rattle.mls_wire.proofs.CheckLaws.{then_ok, bind_ok, given_ok}
@@ -46,7 +46,7 @@ use Rattle.mls_model.proofs.Receipts.{either_way}
 use Rattle.mls_model.proofs.CandidateLaws.{capabilities_fit}
 use Rattle.mls_theorems.specs.CommitSpelling.{LeafFitsIfShort}
 use Rattle.mls_theorems.proofs.Fit.{short_first, short_last, short_text, made_leaf_fits, commit_source_fits, commit_fits}
-use Rattle.mls_theorems.specs.CommitCalls.{commit_of, said_of, signature_of, tag_of, content_of, message_of, made_of, path_for}
+use Rattle.mls_theorems.specs.CommitCalls.{commit_of, said_of, signature_of, tag_of, content_of, message_of, made_of}
 use Rattle.mls_theorems.specs.SentCommits.{IsNewPath, PathDid, sent_of, MadeFits}
 
 new_path_did : (c : Crypto) (m : Member) (carried : List Extension) (e : Edits) (seed : List ℕ) (path : MadePath) → new_path c m carried e seed ≡ Ok path → IsNewPath c m carried e seed path
@@ -72,7 +72,7 @@ new_path_did c m carried e seed path h =
 -- which way a test went
 
 pub path_did : PathDid
-unfolding path_for
+unfolding path_with
 path_did c m used e wants_path seed path h = either_way _ _ _ _ h (λ t f. new_path_did c m _ e seed path f) (λ t f. sym (ok_is _ _ f))
 
 -- its leaf has a spelling, if it is short

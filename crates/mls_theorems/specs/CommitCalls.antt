@@ -1,5 +1,5 @@
 -- What a commit call that succeeded found and made.
-use Rattle.std.specs.Prelude.{◌≡◌, ℕ, ◌^◌, ◌-◌, nat_lt, Bool, true, not, ◌||◌, if◌then◌else◌, List, zip, Option, is_none, Result, Ok}
+use Rattle.std.specs.Prelude.{◌≡◌, ℕ, ◌^◌, ◌-◌, nat_lt, Bool, true, not, List, zip, Option, is_none, Result, Ok}
 use Rattle.mls_wire.specs.Checks.{passed}
 use Rattle.mls_types.specs.GroupContext.{group_context}
 use Rattle.mls_types.specs.SignedParts.{signed_with}
@@ -11,11 +11,11 @@ use Rattle.mls_types.specs.declared.signed.SignedContent.{SignedContent}
 use Rattle.mls_suite.specs.Crypto.{Crypto}
 use Rattle.mls_schedule.specs.Epoch.{init_secret, joiner_secret, epoch_secret, confirmation_tag}
 use Rattle.mls_model.specs.PublicState.{Used}
-use Rattle.mls_model.specs.Proposals.{adds, extended, is_path_required}
+use Rattle.mls_model.specs.Proposals.{adds}
 use Rattle.mls_model.specs.Commit.{Edits, Change, apply_proposals, change_of_commit, public_with}
 use Rattle.mls_model.specs.Member.{Member, find_proposals, with_keys}
 use Rattle.mls_model.specs.Messages.{require_within_limit, content_by, content_signature, message_by}
-use Rattle.mls_model.specs.Make.{MadePath, Made, new_path, no_path, welcome_if, make}
+use Rattle.mls_model.specs.Make.{MadePath, Made, path_if_needed, welcome_if, make}
 
 -- ---- what is made of a list and a path
 
@@ -56,12 +56,6 @@ made_of c m list path change welcome = record {
   };
 }
 
--- the path of a commit that is made, where one is wanted or required
-unfoldable pub path_for : Crypto → Member → List Used → Edits → Bool → List ℕ → Result MadePath ℕ
-path_for c m used e wants_path seed =
-    if wants_path || is_path_required used then new_path c m (extended m.public.context.extensions used) e seed
-    else Ok (no_path m e)
-
 -- ---- the steps of a call
 
 pub record Makes (c : Crypto) (m : Member) (list : List ProposalOrRef) (wants_path : Bool) (seed : List ℕ)
@@ -74,7 +68,7 @@ pub record Makes (c : Crypto) (m : Member) (list : List ProposalOrRef) (wants_pa
   pub edits : Edits
   pub edits_are : apply_proposals c m.public m.keys.leaf used ≡ Ok edits
   pub path : MadePath
-  pub path_is : path_for c m used edits wants_path seed ≡ Ok path
+  pub path_is : path_if_needed c m edits used wants_path seed ≡ Ok path
   pub change : Change
   pub change_is : change_of_commit c m.public m.keys.leaf used (commit_of list path) (said_of m list path)
       (signature_of c m list path) ≡ Ok change

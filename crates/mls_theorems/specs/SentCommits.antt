@@ -30,9 +30,9 @@ use Rattle.mls_treekem_model.specs.Seeds.{path_seed}
 use Rattle.mls_model.specs.Commit.{Edits, Change}
 use Rattle.mls_model.specs.Member.{Member}
 use Rattle.mls_model.specs.Messages.{decode_message, content_tag}
-use Rattle.mls_model.specs.Make.{MadePath, Made, committed_leaf, no_path, make}
+use Rattle.mls_model.specs.Make.{MadePath, Made, committed_leaf, no_path, path_if_needed, make}
 use Rattle.mls_model.specs.MemberInvariant.{IsGoodMember}
-use Rattle.mls_theorems.specs.CommitCalls.{content_of, path_for, Makes}
+use Rattle.mls_theorems.specs.CommitCalls.{content_of, Makes}
 
 -- ---- the path of a made commit
 
@@ -53,7 +53,7 @@ pub record IsNewPath (c : Crypto) (m : Member) (list : List Extension) (e : Edit
 
 abbrev pub PathDid : Type 0
 PathDid = (c : Crypto) (m : Member) (used : List Used) (e : Edits) (wants_path : Bool) (seed : List ℕ)
-    (path : MadePath) → path_for c m used e wants_path seed ≡ Ok path →
+    (path : MadePath) → path_if_needed c m e used wants_path seed ≡ Ok path →
     IsNewPath c m (extended m.public.context.extensions used) e seed path ⊎ (path ≡ no_path m e)
 
 -- what a made commit is as a message
