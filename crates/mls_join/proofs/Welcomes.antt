@@ -21,9 +21,9 @@ use Rattle.mls_view.specs.Shown.{Shows}
 use Rattle.mls_suite.specs.Crypto.{Crypto}
 use Rattle.mls_model.specs.Candidate.{Candidate}
 use Rattle.mls_model.specs.Messages.{decode_message, are_bytes}
-use Rattle.mls_model.specs.OpenedWelcome.{Opened, opened_welcome, welcome_in}
+use Rattle.mls_model.specs.OpenedWelcome.{Opened, opened_welcome, welcome_in, open_for_candidate, open_group_info}
 use Rattle.mls_join.specs.Entrance.{outer_checks}
-use Rattle.mls_join.specs.Stages.{read_welcome, read_welcome_of_suite, open_for_candidate, open_group_info, IsShownIn}
+use Rattle.mls_join.specs.Stages.{read_welcome, read_welcome_of_suite, IsShownIn}
 
 -- a fault of decoding
 pub fault_read : (bytes : List ℕ) (n : ℕ) → whole mls_message input_limit bytes ≡ Err n → read_welcome bytes ≡ Err n

@@ -5,12 +5,11 @@ use Rattle.mls_wire.specs.Reading.{◌>>=◌}
 use Rattle.mls_tree_model.specs.Term.{Term}
 use Rattle.mls_treekem_model.specs.Keys.{PrivateKeys}
 use Rattle.mls_model.specs.Candidate.{Candidate}
-use Rattle.mls_model.specs.Join.{JoinedMember}
+use Rattle.mls_model.specs.Join.{JoinedMember, enter_group}
 use Rattle.mls_model.specs.Messages.{decode_message}
 use Rattle.mls_model.specs.OpenedWelcome.{welcome_in}
 use Rattle.mls_join.specs.Faults.{number_of}
 use Rattle.mls_join.specs.Parts.{opened_by}
-use Rattle.mls_join.specs.Stages.{enter_group}
 use Rattle.mls_join.specs.declared.entrance.Entrance.{Entrance}
 use Rattle.mls_join.specs.declared.error.JoinError.{JoinError}
 use Rattle.mls_join.specs.declared.opening.Opened.{Opened}

@@ -38,7 +38,7 @@ pub struct Entrance {
 }
 
 /// The new member with these keys in this tree: `BadConfirmationTag` (65) the confirmation tag.
-#[tactic(auto, unfolding(crate::specs::Stages::enter_group))]
+#[tactic(auto, unfolding(mls_model::specs::Join::enter_group))]
 fn enter_group(
     alloc: Global,
     tree: PublicTree,

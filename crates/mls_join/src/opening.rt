@@ -9,13 +9,13 @@ ghost use Rattle.mls_types.specs.GroupInfo.{group_info};
 ghost use Rattle.mls_tree.specs.Refusals.{RefusesOutright};
 ghost use Rattle.mls_public_group.specs.Short.{IsBelow};
 ghost use Rattle.mls_model.specs.Messages.{are_bytes};
-ghost use Rattle.mls_model.specs.OpenedWelcome.{or_fault, opened_welcome};
+ghost use Rattle.mls_model.specs.OpenedWelcome.{or_fault, opened_welcome, find_entry, plain_info, open_group_info, open_for_candidate};
 ghost use Rattle.mls_model.specs.Proposals.{package_reference};
 ghost use Rattle.mls_join.specs.Entrance.{outer_checks};
 ghost use Rattle.mls_join.specs.Faults.{number_of, Gives, GivesBytes, IsMemory};
 ghost use Rattle.mls_join.specs.FewNodes.{HasFewNodes, RefusesTree};
 ghost use Rattle.mls_join.specs.Parts.{secrets_by, Opens};
-ghost use Rattle.mls_join.specs.Stages.{LendsWelcome, read_welcome_of_suite, entry_of, plain_info, open_group_info, open_for_candidate};
+ghost use Rattle.mls_join.specs.Stages.{LendsWelcome, read_welcome_of_suite};
 
 use crate::error::JoinError;
 use crate::few_nodes::refuse_long_tree;
@@ -77,11 +77,11 @@ fn package_reference(alloc: Global, offered: &KeyPackage) -> Result<Secret, Join
 }
 
 /// The first entry for a reference.
-fn entry_of<'a>(
+fn find_entry<'a>(
     reference: &Secret,
     entries: &'a [EncryptedGroupSecrets],
 ) -> Option<&'a EncryptedGroupSecrets>
-    ensures { option_copied result ≡ entry_of reference.now entries.now }
+    ensures { option_copied result ≡ find_entry reference.now entries.now }
 {
     entries.iter().find(|entry| entry.new_member.as_slice() == reference.as_slice())
 }
@@ -118,7 +118,7 @@ fn plain_info<S: Suite>(alloc: Global, joiner: &Secret, sealed: &[u8]) -> Result
 
 /// What the secrets of an entry open: `GroupInfoUnreadable` (75), `WrongSuite` (71) the GroupInfo is of another suite;
 /// `TreeShape` (20) and `TreeFull` (21) where it has more nodes than a tree.
-#[tactic(auto, unfolding(crate::specs::Stages::open_group_info))]
+#[tactic(auto, unfolding(mls_model::specs::OpenedWelcome::open_group_info))]
 fn open_group_info<S: Suite>(
     alloc: Global,
     secrets: Secrets,
@@ -142,7 +142,7 @@ fn open_group_info<S: Suite>(
 
 /// What a Welcome of the suite gives to a candidate: 72 to 75, `WrongSuite` (71) the GroupInfo is of another suite,
 /// `TreeShape` (20) and `TreeFull` (21) where it has more nodes than a tree.
-#[tactic(auto, unfolding(crate::specs::Stages::open_for_candidate))]
+#[tactic(auto, unfolding(mls_model::specs::OpenedWelcome::open_for_candidate))]
 fn open_for_candidate<S: Suite>(
     alloc: Global,
     candidate: &Candidate<S>,
@@ -154,7 +154,7 @@ fn open_for_candidate<S: Suite>(
     ensures below { IfOk result (λ o. IsBelow (2 ^ 27) group_info o.info) }
 {
     let reference = package_reference(alloc, candidate.key_package())?;
-    let Some(entry) = entry_of(&reference, welcome.secrets.as_slice()) else {
+    let Some(entry) = find_entry(&reference, welcome.secrets.as_slice()) else {
         return Err(JoinError::NotForMe);
     };
     let secrets = opened_secrets::<S>(alloc, candidate, welcome, entry)?;

@@ -69,14 +69,10 @@ pub record JoinedMember : Type 0 where
   pub member : Member
   pub info : List ℕ
 
--- the new member of an opened Welcome (RFC 9420, 12.4.3.1): the checks of tree and signer, `NotInTree` (80) no leaf is
--- the candidate's, the checks of its keys, `BadConfirmationTag` (65)
-unfoldable pub member_of : Crypto → Candidate → Opened → Result JoinedMember ℕ
-member_of c k o = do
-  t ← joined_tree c o.info
-  signer_checks c k o.info t
-  place ← require_some 80 (place_of k.offered.leaf_node t)
-  keys ← joined_keys c t o.info.signer (record { leaf = place.0; own = k.leaf; above = [] }) o.path_secret
+-- the new member with these keys in this tree: `BadConfirmationTag` (65) the confirmation tag isn't that of the epoch
+-- (RFC 9420, 12.4.3.1)
+unfoldable pub enter_group : Candidate → Opened → Term → PrivateKeys → Result JoinedMember ℕ
+enter_group k o t keys = do
   let context : GroupContext = o.info.group_context
   let epoch = epoch_secret o.joiner (group_context.spell context)
   require 65 (bytes_eq o.info.confirmation_tag (confirmation_tag epoch context.confirmed_transcript_hash))
@@ -96,6 +92,16 @@ member_of c k o = do
     };
     info = o.bytes;
   })
+
+-- the new member of an opened Welcome (RFC 9420, 12.4.3.1): the checks of tree and signer, `NotInTree` (80) no leaf is
+-- the candidate's, the checks of its keys, and of the confirmation tag
+unfoldable pub member_of : Crypto → Candidate → Opened → Result JoinedMember ℕ
+member_of c k o = do
+  t ← joined_tree c o.info
+  signer_checks c k o.info t
+  place ← require_some 80 (place_of k.offered.leaf_node t)
+  keys ← joined_keys c t o.info.signer (record { leaf = place.0; own = k.leaf; above = [] }) o.path_secret
+  enter_group k o t keys
 
 -- what a candidate does with any bytes: it opens the Welcome, and becomes the new member (RFC 9420, 12.4.3.1)
 unfoldable pub join_verdict : Crypto → Candidate → List ℕ → Result JoinedMember ℕ

@@ -37,9 +37,9 @@ use Rattle.mls_schedule.specs.Epoch.{welcome_key, welcome_nonce, epoch_secret, c
 use Rattle.mls_schedule.specs.Transcript.{interim_hash}
 use Rattle.mls_model.specs.MemberInvariant.{NodeFits, IsGoodMember, IsGoodCandidate}
 use Rattle.mls_model.specs.Candidate.{Candidate}
-use Rattle.mls_model.specs.Join.{JoinedMember, joined_tree, signer_checks, is_same_leaf, place_of, joined_keys, member_of, join_verdict}
+use Rattle.mls_model.specs.Join.{JoinedMember, joined_tree, signer_checks, is_same_leaf, place_of, joined_keys, enter_group, member_of, join_verdict}
 use Rattle.mls_model.specs.Messages.{decode_message, are_bytes}
-use Rattle.mls_model.specs.OpenedWelcome.{or_fault, welcome_in, Opened, opened_secrets, opened_welcome}
+use Rattle.mls_model.specs.OpenedWelcome.{or_fault, welcome_in, Opened, opened_secrets, open_group_info, open_for_candidate, opened_welcome}
 use Rattle.mls_model.specs.Proposals.{package_reference}
 use Rattle.mls_theorems.proofs.Exact.{exact_written}
 use Rattle.mls_theorems.proofs.Cells.{taken_good, taken_parts}
@@ -77,7 +77,7 @@ pub record HasOpened (c : Crypto) (o : Opened) : Type 0 where
   pub suite : o.info.group_context.cipher_suite ≡ c.number
 
 pub has_opened : (c : Crypto) (k : Candidate) (bytes : List ℕ) (o : Opened) → opened_welcome c k bytes ≡ Ok o → HasOpened c o
-unfolding opened_welcome
+unfolding opened_welcome open_for_candidate open_group_info
 has_opened c k bytes o h =
     let s1 = bind_ok (decode_message bytes) _ _ h in
     let s2 = bind_ok (require_some 70 (welcome_in s1.0)) _ _ s1.2 in
@@ -172,7 +172,7 @@ pub record MemberDid (c : Crypto) (k : Candidate) (o : Opened) (joined : JoinedM
   pub is : joined_by k o tree keys ≡ joined
 
 pub member_did : (c : Crypto) (k : Candidate) (o : Opened) (joined : JoinedMember) → member_of c k o ≡ Ok joined → MemberDid c k o joined
-unfolding member_of alone_at joined_by
+unfolding member_of enter_group alone_at joined_by
 member_did c k o joined h =
     let s1 = bind_ok (joined_tree c o.info) _ _ h in
     let s2 = then_ok (signer_checks c k o.info s1.0) _ _ s1.2 in

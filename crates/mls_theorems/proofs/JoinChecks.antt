@@ -24,7 +24,7 @@ use Rattle.mls_schedule.specs.Epoch.{epoch_secret, confirmation_tag}
 use Rattle.mls_schedule.specs.Transcript.{interim_hash}
 use Rattle.mls_model.specs.Candidate.{Candidate}
 use Rattle.mls_model.specs.Commit.{public_with}
-use Rattle.mls_model.specs.Join.{JoinedMember, joined_tree, signer_checks, place_of, joined_keys, member_of}
+use Rattle.mls_model.specs.Join.{JoinedMember, joined_tree, signer_checks, place_of, joined_keys, enter_group, member_of}
 use Rattle.mls_model.specs.OpenedWelcome.{Opened}
 use Rattle.mls_model.specs.PublicState.{PublicState}
 use Rattle.mls_model.specs.Welcome.{unsigned_info, signed_info}
@@ -66,7 +66,7 @@ joins_by : (c : Crypto) (k : Candidate) (o : Opened) (t : Term) (place : ℕ × 
     } in
     joined_tree c o.info ≡ Ok t → signer_checks c k o.info t ≡ Ok passed → place_of k.offered.leaf_node t ≡ Some place → joined_keys c t o.info.signer (record { leaf = place.0; own = k.leaf; above = [] }) o.path_secret ≡ Ok keys →
     bytes_eq o.info.confirmation_tag (confirmation_tag epoch o.info.group_context.confirmed_transcript_hash) ≡ true → member_of c k o ≡ Ok joined
-unfolding member_of
+unfolding member_of enter_group
 joins_by c k o t place keys e1 e2 e3 e4 e5 = rw (e1, e2, e3, e4, e5) refl
 
 pub joins_at : JoinsAt
