@@ -36,11 +36,11 @@ use Rattle.mls_model.specs.Proposals.{removed_leaves}
 use Rattle.mls_model.specs.Commit.{Change, change_of_commit, public_with}
 use Rattle.mls_model.specs.Member.{Member, find_proposals, with_keys, follow_edits, with_epoch, after_removal}
 use Rattle.mls_model.specs.Messages.{sender_leaf}
-use Rattle.mls_model.specs.Verdict.{commit_verdict, open_path_secret, enter_epoch}
+use Rattle.mls_model.specs.Verdict.{commit_verdict, open_path_secret, enter_epoch, enter_epoch_with}
 use Rattle.mls_model.proofs.KeyLaws.{with_all_keys}
 use Rattle.mls_member.specs.declared.error.Refusal.{Refusal}
 use Rattle.mls_member.specs.Faults.{number_of}
-use Rattle.mls_member.specs.Process.{check_commit, after_change, follow_commit, edited_keys, enter_epoch_with, removes_leaf}
+use Rattle.mls_member.specs.Process.{check_commit, after_change, follow_commit, edited_keys, removes_leaf}
 use Rattle.mls_member.proofs.Uses.{any_removes}
 
 -- ---- private keys

@@ -31,10 +31,10 @@ use Rattle.mls_view.specs.Views.{LendsAll}
 use Rattle.mls_model.specs.declared.effect.Effect.{Effect}
 use Rattle.mls_model.specs.Member.{Member}
 use Rattle.mls_model.specs.Messages.{decode_message}
-use Rattle.mls_model.specs.Verdict.{framing_checks, content_verdict, proposal_verdict, commit_verdict, bytes_verdict}
+use Rattle.mls_model.specs.Verdict.{framing_checks, content_verdict, proposal_verdict, commit_verdict, bytes_verdict, message_verdict}
 use Rattle.mls_member.specs.declared.error.Refusal.{Refusal}
 use Rattle.mls_member.specs.Faults.{number_of}
-use Rattle.mls_member.specs.Process.{IsShortView, message_verdict, outer_checks, sender_of}
+use Rattle.mls_member.specs.Process.{IsShortView, outer_checks, sender_of}
 use Rattle.mls_member.proofs.LengthLaws.{short_lent}
 
 -- ---- by content

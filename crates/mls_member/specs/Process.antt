@@ -11,7 +11,6 @@ use Rattle.mls_leaf.specs.Proposal.{proposal as proposal_format}
 use Rattle.mls_leaf.specs.declared.extension.Extension.{Extension}
 use Rattle.mls_leaf.specs.declared.leaf.LeafNode.{LeafNode}
 use Rattle.mls_leaf.specs.declared.proposal.Proposal.{Proposal}
-use Rattle.mls_types.specs.GroupContext.{group_context}
 use Rattle.mls_types.specs.declared.commit.Commit.{Commit}
 use Rattle.mls_types.specs.declared.commit.ProposalOrRef.{ProposalOrRef}
 use Rattle.mls_types.specs.declared.commit.ProposalOrRef.TheVariants as listed
@@ -24,15 +23,15 @@ use Rattle.mls_view.specs.Shown.{ShowsPublic}
 use Rattle.mls_suite.specs.Crypto.{Crypto}
 use Rattle.mls_tree_model.specs.Term.{leaf_of}
 use Rattle.mls_treekem_model.specs.Keys.{PrivateKeys}
-use Rattle.mls_schedule.specs.Epoch.{init_secret, next_epoch_secret, confirmation_tag}
+use Rattle.mls_schedule.specs.Epoch.{confirmation_tag}
 use Rattle.mls_model.specs.declared.effect.Effect.{Effect}
-use Rattle.mls_model.specs.declared.effect.Effect.TheVariants.{Proposed, Advanced, Removed}
-use Rattle.mls_model.specs.Proposals.{extended, proposal_checks, remove_in}
+use Rattle.mls_model.specs.declared.effect.Effect.TheVariants.{Removed}
+use Rattle.mls_model.specs.Proposals.{extended, remove_in}
 use Rattle.mls_model.specs.PublicState.{Used}
-use Rattle.mls_model.specs.Commit.{Change, change_of_commit, public_with}
-use Rattle.mls_model.specs.Member.{KeptProposal, Member, find_proposals, keys_after_edits, with_kept, with_epoch, after_removal}
+use Rattle.mls_model.specs.Commit.{Change, change_of_commit}
+use Rattle.mls_model.specs.Member.{KeptProposal, Member, find_proposals, keys_after_edits, after_removal}
 use Rattle.mls_model.specs.Messages.{decode_message, public_in, sender_leaf, is_handshake, is_content_signed, content_tag}
-use Rattle.mls_model.specs.Verdict.{is_kept, framing_checks, content_verdict, open_path_secret, enter_epoch}
+use Rattle.mls_model.specs.Verdict.{is_kept, open_path_secret, enter_epoch}
 use Rattle.mls_public_group.specs.Short.{IsBelow}
 
 -- ---- every message
@@ -73,17 +72,6 @@ outer_checks m bytes = do
   v ← require_some 41 (public_in whole)
   sender_of m v
 
--- what a PublicMessage does
-abbrev pub message_verdict : Crypto → Member → PublicMessage → List ℕ → Result (Effect × Member) ℕ
-message_verdict c m v bytes = framing_checks c m v bytes >> content_verdict c m v.content bytes v.content.body
-
--- ---- a proposal
-
--- a proposal that is not known yet is checked and kept under its reference (RFC 9420, 12.1)
-unfoldable pub new_proposal : Crypto → Member → List ℕ → ℕ → List ℕ → Proposal → Result (Effect × Member) ℕ
-new_proposal c m reference sender bytes proposal =
-    proposal_checks c m.public sender proposal >> Ok (Proposed reference, with_kept m (record { reference = reference; message = bytes; proposal = proposal; sender = sender; own_key = None }))
-
 -- ---- a commit
 
 -- the private key that a kept proposal has, where there is one
@@ -120,13 +108,6 @@ after_change c m committer commit tag (change, removes) =
 -- the member after a commit that isn't in the last epoch
 abbrev pub follow_commit : Crypto → Member → ℕ → Commit → FramedContent → List ℕ → List ℕ → Result (Effect × Member) ℕ
 follow_commit c m committer commit said signature tag = check_commit c m committer commit said signature >>= after_change c m committer commit tag
-
--- the next epoch by its commit secret, with the keys that the member has in it; 65 where the tag isn't that of it
-unfoldable pub enter_epoch_with : Member → Change → List ℕ → PrivateKeys → List ℕ → Result (Effect × Member) ℕ
-enter_epoch_with m change secret keys tag = do
-  let epoch = next_epoch_secret (init_secret m.epoch) secret (group_context.spell change.context)
-  require 65 (bytes_eq tag (confirmation_tag epoch change.context.confirmed_transcript_hash))
-  Ok (Advanced change.context.epoch, with_epoch m (public_with change tag) epoch keys)
 
 -- ---- lengths
 

@@ -33,10 +33,10 @@ use Rattle.mls_model.specs.declared.effect.Effect.{Effect}
 use Rattle.mls_model.specs.Commit.{Edits}
 use Rattle.mls_model.specs.Member.{Member, follow_edits, without_pending}
 use Rattle.mls_model.specs.Messages.{is_content_signed, content_tag}
-use Rattle.mls_model.specs.Verdict.{bytes_verdict, commit_verdict, framing_checks, open_path_secret, own_pending, proposal_verdict}
+use Rattle.mls_model.specs.Verdict.{bytes_verdict, commit_verdict, framing_checks, open_path_secret, own_pending, proposal_verdict, message_verdict, new_proposal, enter_epoch_with}
 use Rattle.mls_commit.specs.Received.{Received}
 use Rattle.mls_member.specs.Faults.{number_of, Does}
-use Rattle.mls_member.specs.Process.{sender_of, check_sender, outer_checks, message_verdict, new_proposal, check_commit, edited_keys, follow_commit, enter_epoch_with}
+use Rattle.mls_member.specs.Process.{sender_of, check_sender, outer_checks, check_commit, edited_keys, follow_commit}
 use Rattle.mls_member.specs.declared.error.Refusal.{Refusal}
 use Rattle.mls_member.specs.declared.received_commit.Reached.{Reached}
 

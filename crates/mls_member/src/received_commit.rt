@@ -218,7 +218,7 @@ impl<S: Suite> Member<S> {
     }
 
     /// Enters the next epoch: `BadConfirmationTag` (65) where the confirmation tag isn't that of it (RFC 9420, 8.1).
-    #[tactic(auto, unfolding(crate::specs::Process::enter_epoch_with, mls_model::specs::Member::with_epoch))]
+    #[tactic(auto, unfolding(mls_model::specs::Verdict::enter_epoch_with, mls_model::specs::Member::with_epoch))]
     fn enter_epoch(
         &mut self,
         received: Received,

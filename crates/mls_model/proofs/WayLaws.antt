@@ -23,7 +23,7 @@ use Rattle.mls_model.specs.Proposals.{proposal_checks, removed_leaves}
 use Rattle.mls_model.specs.Commit.{Change, change_of_commit}
 use Rattle.mls_model.specs.Member.{Pending, Member, kept_under, find_proposals, after_removal, keys_after_edits}
 use Rattle.mls_model.specs.Messages.{decode_message, public_in, sender_leaf, is_handshake, reference_of}
-use Rattle.mls_model.specs.Verdict.{framing_checks, proposal_verdict, open_path_secret, enter_epoch, commit_verdict, content_verdict, bytes_verdict, own_pending, pending_or_received, verdict}
+use Rattle.mls_model.specs.Verdict.{framing_checks, new_proposal, proposal_verdict, open_path_secret, enter_epoch_with, enter_epoch, commit_verdict, content_verdict, bytes_verdict, own_pending, pending_or_received, verdict}
 use Rattle.mls_model.specs.VerdictFindings.{WasRemoved, HasFollowed, DidPending, reached_epoch}
 use Rattle.mls_model.proofs.Found.{ProposalDid, ContentDid, DidOther}
 use Rattle.mls_model.proofs.Receipts.{framing_did, did_receive, did_take}
@@ -68,7 +68,7 @@ refused_tag c m bytes n v commit tag used change climb p d stays opens false x e
 refused_climb : (c : Crypto) (m : Member) (bytes : List ℕ) (n : ℕ) (v : PublicMessage) (commit : Commit) (tag : List ℕ) (used : List Used) (change : Change) → IsCommit c m bytes v commit tag → IsChanging c m v.content commit used change →
     has (removed_leaves used) m.keys.leaf ≡ false →
     (r : Result Climb ℕ) → open_path_secret c m (sender_leaf v.content.sender) change (keys_after_edits m commit.proposals change.edits.tree) commit.path ≡ r → (r >>= λ climb. enter_epoch m change climb tag) ≡ Err n → Refusing c m bytes n
-unfolding enter_epoch reached_epoch
+unfolding enter_epoch enter_epoch_with reached_epoch
 refused_climb c m bytes n v commit tag used change p d stays (Ok climb) e h = refused_tag c m bytes n v commit tag used change climb p d stays e (bytes_eq tag (confirmation_tag (reached_epoch m change climb) change.context.confirmed_transcript_hash)) _ refl h
 refused_climb c m bytes n v commit tag used change p d stays (Err k) e h = let same : k ≡ n = cc in closed v commit tag used change p d stays (e ∙ ap (λ (i : ℕ). Err i) same)
 
@@ -101,7 +101,7 @@ no_application : (b : SignedBody) (text : _) → b ≡ body_of.Application text 
 no_application b text e h = let never = ap is_handshake e in cc
 
 refused_content : (c : Crypto) (m : Member) (bytes : List ℕ) (n : ℕ) (v : PublicMessage) (b : SignedBody) → v.content.body ≡ b → IsTaken c m bytes v → content_verdict c m v.content bytes b ≡ Err n → Refusing c m bytes n
-unfolding content_verdict proposal_verdict commit_verdict
+unfolding content_verdict proposal_verdict new_proposal commit_verdict
 refused_content c m bytes n v (body_of.Application text) e t h = absurd (no_application v.content.body text e t.is_framed.handshake)
 refused_content c m bytes n v (body_of.Proposal said) e t h = refused_proposal c m bytes n v said (record { is_taken = t; says = e }) _ refl _ _ _ refl h
 refused_content c m bytes n v (body_of.Commit commit tag) e t h = refused_commit c m bytes n v commit tag (record { is_taken = t; says = e }) _ refl _ refl h

@@ -30,7 +30,8 @@ use Rattle.mls_model.specs.Commit.{Change, public_with, next_public}
 use Rattle.mls_model.specs.Member.{KeptProposal, Pending, Member, kept_under, named_proposals, first_own_key, with_keys, with_epoch, with_kept, after_removal}
 use Rattle.mls_model.specs.Messages.{decode_message, sender_leaf, reference_of}
 use Rattle.mls_model.specs.PublicState.{PublicState}
-use Rattle.mls_model.specs.Verdict.{is_kept, kept_of, verdict}
+use Rattle.mls_model.specs.Verdict.{is_kept, verdict}
+use Rattle.mls_model.specs.VerdictFindings.{kept_of, IsFramed, IsNowKept, WasRemoved, HasFollowed, DidPending, reached_epoch}
 use Rattle.mls_treekem_model.specs.Keys.{PrivateKeys}
 use Rattle.mls_theorems.specs.CommitLaws.{KeepsSignature}
 use Rattle.mls_theorems.proofs.Exact.{keys_next}
@@ -40,7 +41,6 @@ use Rattle.mls_theorems.proofs.Signatures.{signatures_next}
 use Rattle.mls_theorems.specs.NextStates.{IsNext}
 use Rattle.mls_theorems.proofs.Next.{is_next}
 use Rattle.mls_theorems.proofs.One.{IsOneOf}
-use Rattle.mls_model.specs.VerdictFindings.{IsFramed, IsNowKept, WasRemoved, HasFollowed, DidPending, reached_epoch}
 use Rattle.mls_model.proofs.Found.{CommitDid, ContentDid, ReceivedDid, DidOther}
 use Rattle.mls_model.proofs.Receipts.{did_receive, did_take}
 use Rattle.mls_theorems.proofs.Spelled.{commit_in}

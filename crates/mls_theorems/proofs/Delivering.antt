@@ -28,9 +28,9 @@ use Rattle.mls_model.specs.Member.{Pending, Member, with_keys, with_epoch, after
 use Rattle.mls_model.specs.PublicState.{PublicState, Used}
 use Rattle.mls_model.specs.JournalState.{Creations}
 use Rattle.mls_model.specs.EventRange.{IsSourceInRange}
-use Rattle.mls_model.specs.Verdict.{kept_of, own_pending, verdict}
+use Rattle.mls_model.specs.Verdict.{own_pending, verdict}
+use Rattle.mls_model.specs.VerdictFindings.{kept_of, reached_epoch, HasFollowed, WasRemoved, DidPending}
 use Rattle.mls_model.specs.World.{World, Seat, seat_at, bytes_of}
-use Rattle.mls_model.specs.VerdictFindings.{reached_epoch, HasFollowed, WasRemoved, DidPending}
 use Rattle.mls_model.proofs.Found.{ContentDid, ReceivedDid, DidOther}
 use Rattle.mls_model.proofs.Receipts.{did_receive, did_take}
 use Rattle.mls_theorems.proofs.Delivered.{delivered_good}

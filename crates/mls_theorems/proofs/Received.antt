@@ -24,7 +24,7 @@ use Rattle.mls_model.specs.Commit.{Change, apply_proposals, change_of_commit, pu
 use Rattle.mls_model.specs.Member.{Pending, Member, find_proposals, with_keys, keys_after_edits, with_epoch, after_removal}
 use Rattle.mls_model.specs.Messages.{decode_message, sender_leaf}
 use Rattle.mls_model.specs.Make.{MadePath, Made}
-use Rattle.mls_model.specs.Verdict.{framing_checks, open_path_secret, enter_epoch, commit_verdict, content_verdict, bytes_verdict, own_pending, verdict}
+use Rattle.mls_model.specs.Verdict.{framing_checks, open_path_secret, enter_epoch_with, enter_epoch, commit_verdict, content_verdict, bytes_verdict, own_pending, verdict}
 use Rattle.mls_model.specs.Agreement.{Agree, AgreeSecret, Keeps}
 use Rattle.mls_model.specs.MemberInvariant.{IsGoodMember, IsGoodPending, IsGoodIfPending}
 use Rattle.mls_model.specs.Journal.{names_in, removes_in}
@@ -84,7 +84,7 @@ advanced_by : (c : Crypto) (m : Member) (v : SignedContent) (commit : Commit) (t
     open_path_secret c m (sender_leaf v.sender) change (keys_after_edits m commit.proposals change.edits.tree) commit.path ≡ Ok climb →
     bytes_eq tag (confirmation_tag (reached_epoch m change climb) change.context.confirmed_transcript_hash) ≡ true →
     commit_verdict c m v commit tag ≡ Ok (Advanced change.context.epoch, with_epoch m (public_with change tag) (reached_epoch m change climb) (with_keys m.keys climb.keys))
-unfolding commit_verdict enter_epoch reached_epoch
+unfolding commit_verdict enter_epoch enter_epoch_with reached_epoch
 advanced_by c m v commit tag used change climb e1 e2 e3 e4 e5 e6 = rw (e1, e2, e3, e4, e5, e6) refl
 
 -- ---- the epoch secret
