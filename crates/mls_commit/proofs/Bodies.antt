@@ -8,9 +8,8 @@ use Rattle.mls_suite.specs.Crypto.{Crypto}
 use Rattle.mls_tree_model.specs.Term.{Term}
 use Rattle.mls_model.specs.Proposals.{extended, is_path_required}
 use Rattle.mls_model.specs.PublicState.{PublicState, Used}
-use Rattle.mls_model.specs.Commit.{Edits, Change, apply_proposals, apply_path_if, change_of_commit}
+use Rattle.mls_model.specs.Commit.{Edits, Change, apply_proposals, apply_path_if, change_of_commit, change_of}
 use Rattle.mls_public_group.specs.Short.{HasLeavesBelow}
-use Rattle.mls_commit.specs.Change.{change_of}
 
 pub body_ok : (c : Crypto) (p : PublicState) (i : ℕ) (used : List Used) (commit : Commit) (content : FramedContent) (said signature : List ℕ) (list : List Extension) (e : Edits) (t : Term) (change : Change) → framed_content.spell content ≡ said → list ≡ extended p.context.extensions used →
     apply_proposals c p i used ≡ Ok e → (is_some commit.path || not (is_path_required used)) ≡ true → apply_path_if c p i e commit.path ≡ Ok t → change ≡ change_of p list e t said signature → change_of_commit c p i used commit content signature ≡ Ok change

@@ -10,11 +10,10 @@ use Rattle.mls_types.specs.declared.update_path.UpdatePath.{UpdatePath}
 use Rattle.mls_suite.specs.Crypto.{Crypto}
 use Rattle.mls_tree_model.specs.Term.{Term}
 use Rattle.mls_model.specs.PublicState.{PublicState, Used}
-use Rattle.mls_model.specs.Commit.{Change, Edits, change_of_commit}
+use Rattle.mls_model.specs.Commit.{Change, Edits, change_of_commit, change_of}
 use Rattle.mls_public_group.specs.NextTree.{next_term}
 use Rattle.mls_public_group.specs.Short.{AreBelow, HasLeavesBelow, IsBelow}
 use Rattle.mls_public_group.specs.declared.next_tree.NextTree.{NextTree}
-use Rattle.mls_commit.specs.Change.{change_of}
 use Rattle.mls_commit.specs.Faults.{number_of}
 use Rattle.mls_commit.specs.declared.error.CommitError.{CommitError}
 

@@ -47,7 +47,7 @@ impl Model for Received {
 impl Received {
     /// The change with these extensions, these edits and this tree, its path merged: nothing is checked. `said` is the
     /// spelling of the commit's FramedContent, and `signature` its signature (RFC 9420, 8.1, 8.2 and 12.4.1).
-    #[tactic(auto, unfolding(crate::specs::Change::change_of))]
+    #[tactic(auto, unfolding(mls_model::specs::Commit::change_of))]
     pub(crate) fn new(
         alloc: Global,
         group: &PublicGroup,

@@ -23,10 +23,9 @@ use Rattle.mls_treekem_model.specs.Whole.{keys_of_path}
 use Rattle.mls_model.specs.PublicState.{Used, provisional_context}
 use Rattle.mls_model.specs.Proposals.{is_path_required}
 use Rattle.mls_model.specs.Candidate.{leaf_key_of}
-use Rattle.mls_model.specs.Commit.{Edits, apply_path_if, change_after_edits}
+use Rattle.mls_model.specs.Commit.{Edits, apply_path_if, change_after_edits, change_of}
 use Rattle.mls_model.specs.Member.{Member}
 use Rattle.mls_model.specs.Make.{MadePath, committed_leaf, new_path, no_path, carried_after, path_if_needed, path_with}
-use Rattle.mls_commit.specs.Change.{change_of}
 
 -- ---- the body of a commit whose checks have passed
 

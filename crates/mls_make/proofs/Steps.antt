@@ -16,12 +16,11 @@ use Rattle.mls_tree_model.specs.Term.{Term}
 use Rattle.mls_treekem_model.specs.Seeds.{seal_seed}
 use Rattle.mls_model.specs.PublicState.{Used}
 use Rattle.mls_model.specs.Proposals.{adds}
-use Rattle.mls_model.specs.Commit.{Edits, Change, apply_proposals, apply_path_if, public_with}
+use Rattle.mls_model.specs.Commit.{Edits, Change, apply_proposals, apply_path_if, public_with, change_of}
 use Rattle.mls_model.specs.Member.{Member, find_proposals, with_keys}
 use Rattle.mls_model.specs.Messages.{require_within_limit, content_by, content_signature, message_by}
 use Rattle.mls_model.specs.Make.{MadePath, Made, path_secret_for, path_seals, welcome_if, make, carried_after, path_if_needed, path_with, commit_from_change, commit_from_path, commit_from_proposals}
 use Rattle.mls_model.specs.Welcome.{unsigned_info, signed_info, secrets_with, welcome_message}
-use Rattle.mls_commit.specs.Change.{change_of}
 use Rattle.mls_public_group.specs.MessageLimit.{limited_text}
 use Rattle.mls_message.specs.Speaks.{Speaks}
 use Rattle.mls_message.specs.declared.speaker.Speaker.{Speaker}

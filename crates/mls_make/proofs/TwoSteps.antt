@@ -24,12 +24,11 @@ use Rattle.mls_treekem_model.specs.Seeds.{seal_seed}
 use Rattle.mls_schedule.specs.Epoch.{init_secret, joiner_secret, epoch_secret, confirmation_tag}
 use Rattle.mls_model.specs.PublicState.{PublicState, Used}
 use Rattle.mls_model.specs.Proposals.{adds}
-use Rattle.mls_model.specs.Commit.{Edits, Change, apply_proposals, apply_path_if, change_after_edits, public_with}
+use Rattle.mls_model.specs.Commit.{Edits, Change, apply_proposals, apply_path_if, change_after_edits, public_with, change_of}
 use Rattle.mls_model.specs.Member.{Member, with_keys}
 use Rattle.mls_model.specs.Messages.{require_within_limit, content_by, content_signature, message_by}
 use Rattle.mls_model.specs.Make.{Made, MadePath, welcome_if, path_secret_for, path_seals, carried_after, path_if_needed, commit_from_change, commit_from_path}
 use Rattle.mls_model.specs.Welcome.{secrets_with, unsigned_info, signed_info, welcome_message}
-use Rattle.mls_commit.specs.Change.{change_of}
 use Rattle.mls_public_group.specs.MessageLimit.{limited_text}
 use Rattle.mls_message.specs.Speaks.{Speaks}
 use Rattle.mls_message.specs.declared.speaker.Speaker.{Speaker}

@@ -20,12 +20,11 @@ use Rattle.mls_treekem_model.specs.Seeds.{seal_seed}
 use Rattle.mls_schedule.specs.Epoch.{init_secret, joiner_secret, epoch_secret, confirmation_tag}
 use Rattle.mls_model.specs.PublicState.{PublicState, Used}
 use Rattle.mls_model.specs.Proposals.{adds}
-use Rattle.mls_model.specs.Commit.{Edits, Change, public_with}
+use Rattle.mls_model.specs.Commit.{Edits, Change, public_with, change_of}
 use Rattle.mls_model.specs.Member.{Member, with_keys}
 use Rattle.mls_model.specs.Messages.{require_within_limit, content_by, content_signature, message_by}
 use Rattle.mls_model.specs.Make.{Made, MadePath, welcome_if}
 use Rattle.mls_model.specs.Welcome.{unsigned_info, signed_info, welcome_message}
-use Rattle.mls_commit.specs.Change.{change_of}
 use Rattle.mls_message.specs.Sending.{IsSaidBy}
 use Rattle.mls_message.specs.Speaks.{Speaks}
 use Rattle.mls_message.specs.declared.speaker.Speaker.{Speaker}

@@ -30,7 +30,7 @@ use Rattle.mls_treekem_model.proofs.WholeLaws.{sealed_keys, opened_agrees}
 use Rattle.mls_model.specs.PublicState.{PublicState, Used, provisional_context, confirmed_context}
 use Rattle.mls_model.specs.Proposals.{extended}
 use Rattle.mls_treekem_model.specs.Seeds.{path_seed}
-use Rattle.mls_model.specs.Commit.{Edits, Change, apply_proposals, node_keys, cipher_counts, due_counts, apply_update_path, apply_path_if, change_of_commit}
+use Rattle.mls_model.specs.Commit.{Edits, Change, apply_proposals, node_keys, cipher_counts, due_counts, apply_update_path, apply_path_if, change_of, change_of_commit}
 use Rattle.mls_model.specs.Member.{Member, with_keys, follow_edits, keys_after_edits}
 use Rattle.mls_model.specs.Make.{MadePath, committed_leaf, no_path}
 use Rattle.mls_model.specs.Verdict.{open_path_secret}
@@ -48,7 +48,7 @@ abbrev good_tree : Term → Result Term ℕ
 good_tree t = Ok t
 
 pub body_did : BodyDid
-unfolding change_of_commit provisional_context confirmed_context
+unfolding change_of_commit change_of provisional_context confirmed_context
 body_did c p committer used commit said signature change h =
     let s1 = bind_ok _ _ _ h in
     let s2 = require_ok _ _ _ _ s1.2 in

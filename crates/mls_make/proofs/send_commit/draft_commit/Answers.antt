@@ -1,7 +1,7 @@
 use Rattle.std.proofs.Common.{List, ℕ, ap, ◌∙◌}
 use Rattle.mls_types.specs.Content.{framed_content}
 use Rattle.mls_tree.specs.Tree.{term}
-use Rattle.mls_commit.specs.Change.{change_of}
+use Rattle.mls_model.specs.Commit.{change_of}
 use Rattle.mls_make.proofs.send_commit.draft_commit.Goals as goal
 
 pub returns-clause-change : goal.returns-clause-change
