@@ -9,12 +9,12 @@ ghost use Rattle.mls_types.specs.GroupInfo.{group_info};
 ghost use Rattle.mls_tree.specs.Refusals.{RefusesOutright};
 ghost use Rattle.mls_public_group.specs.Short.{IsBelow};
 ghost use Rattle.mls_model.specs.Messages.{are_bytes};
-ghost use Rattle.mls_model.specs.OpenedWelcome.{or_fault, opened_welcome, find_entry, plain_info, open_group_info, open_for_candidate};
+ghost use Rattle.mls_model.specs.OpenedWelcome.{or_fault, opened_welcome, find_entry, plain_info, open_for_candidate};
 ghost use Rattle.mls_model.specs.Proposals.{package_reference};
 ghost use Rattle.mls_join.specs.Entrance.{outer_checks};
 ghost use Rattle.mls_join.specs.Faults.{number_of, Gives, GivesBytes, IsMemory};
 ghost use Rattle.mls_join.specs.FewNodes.{HasFewNodes, RefusesTree};
-ghost use Rattle.mls_join.specs.Parts.{secrets_by, Opens};
+ghost use Rattle.mls_join.specs.Parts.{Opens, OpensGroupInfo};
 ghost use Rattle.mls_join.specs.Stages.{LendsWelcome, read_welcome_of_suite};
 
 use crate::error::JoinError;
@@ -124,7 +124,7 @@ fn open_group_info<S: Suite>(
     secrets: Secrets,
     sealed: &[u8],
 ) -> Result<Opened, JoinError>
-    ensures answer { Opens S.crypto (open_group_info S.crypto (secrets_by secrets) sealed.now) result }
+    ensures answer { OpensGroupInfo S.crypto secrets sealed.now result }
     ensures below { IfOk result (λ o. IsBelow (2 ^ 27) group_info o.info) }
 {
     let bytes = plain_info::<S>(alloc, &secrets.joiner, sealed)?;

@@ -1,5 +1,6 @@
 -- A path by the parts of its committer that it is made of, in two steps: the tree with it, and its seals.
 use Rattle.std.specs.Prelude.{◌≡◌, ℕ, List, Some, Result, Ok, IfOk}
+use Rattle.std.specs.Global.{Vec}
 use Rattle.mls_wire.specs.Checks.{Answers, Passed, passed, ◌>>◌}
 use Rattle.mls_wire.specs.Reading.{◌>>=◌}
 use Rattle.mls_leaf.specs.declared.extension.Extension.{Extension}
@@ -39,6 +40,10 @@ path_public_keys c i t seed = keys_of_path c t i (path_seed seed)
 -- 12.4.1)
 abbrev pub provisional_bytes : GroupContext → List Extension → Term → List ℕ
 provisional_bytes old list t = group_context.spell (provisional_context old list t)
+
+-- the bytes are that spelling
+abbrev pub SpellsProvisional : GroupContext → List Extension → Term → Vec ℕ → Type 0
+SpellsProvisional old list t v = v.items ≡ provisional_bytes old list t
 
 -- the path secrets are those of leaf i's path in a tree, made of a seed (RFC 9420, 7.4)
 abbrev pub IsChain : Crypto → Term → ℕ → List ℕ → PathSecrets → Type 0

@@ -1,9 +1,8 @@
 //! Spellings that aren't larger than a message may be.
 
 ghost use Rattle.std.specs.Prelude.{length};
-ghost use Rattle.mls_wire.specs.Checks.{AnswersOutright, passed};
 ghost use Rattle.mls_model.specs.Messages.{require_within_limit};
-ghost use Rattle.mls_welcome.specs.Faults.{number_of, GivesBytes, Measures};
+ghost use Rattle.mls_welcome.specs.Faults.{GivesBytes, Measures, PassesOutright};
 ghost use Rattle.mls_public_group.specs.MessageLimit.{FitsIfShort, limited_text};
 
 use crate::error::WelcomeError;
@@ -14,7 +13,7 @@ use std::alloc::Global;
 
 /// Refuses a text with more bytes than a message may have (`TooLong` 6).
 pub(crate) fn require_within_limit(bytes: &[u8]) -> Result<(), WelcomeError>
-    ensures answer { AnswersOutright (λ _. passed) number_of (require_within_limit bytes.now) result }
+    ensures answer { PassesOutright (require_within_limit bytes.now) result }
     ensures length { Measures bytes.now result }
 {
     know_bytes(bytes);
