@@ -387,7 +387,7 @@ make_export held label context n = a_member held
     >>= λ m. a_label label
     >>= λ l. context
     >>= λ c. an_output n
-    >>= λ k. Ok (makes (bytes (exported_secret m.epoch l c k)))
+    >>= λ k. Ok (makes (bytes (exported_secret m.epoch_secret l c k)))
 
 unfoldable pub member_export : Shown → Text → Text → ℕ → Answer
 member_export held label context n = make_export held label context n >>= λ x. Ok (x, held)

@@ -17,7 +17,7 @@ use Rattle.mls_join.specs.declared.opening.Opened.{Opened}
 -- the member that a candidate becomes, with its signature key, and with nothing kept or pending yet
 abbrev pub joined_by : Candidate → Entrance → JoinedMember
 joined_by k e = record {
-  member = record { gone = false; public = e.group; epoch = e.epoch; keys = e.keys; signing = k.signing; kept = []; pending = None };
+  member = record { gone = false; public = e.group; epoch_secret = e.epoch; keys = e.keys; signing = k.signing; kept = []; pending = None };
   info = e.group_info.items;
 }
 

@@ -88,7 +88,7 @@ abbrev pub made_as_of : Member → MadePath → Change → List ℕ → Option (
 made_as_of m made change bytes welcome = record {
   commit = bytes;
   welcome = welcome;
-  pending = record { message = bytes; public = public_with change (tag_of m made change); epoch = epoch_of m made change; keys = with_keys m.keys made.climb.keys };
+  pending = record { message = bytes; public = public_with change (tag_of m made change); epoch_secret = epoch_of m made change; keys = with_keys m.keys made.climb.keys };
 }
 
 through : {A : Type 0} (r : Result Passed ℕ) (bytes : List ℕ) (f : List ℕ → Result A ℕ) → (r >> f bytes) ≡ ((r >> Ok bytes) >>= f)

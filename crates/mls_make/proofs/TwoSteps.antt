@@ -62,7 +62,7 @@ unfolding send_commit
 content_refused c m carried commit e t secret n h = rw (h _ _) refl
 
 abbrev sent_parts : List ℕ → Change → List ℕ → List ℕ → List ℕ → SentCommit
-sent_parts message change joiner epoch tag = record { message = message; change = change; joiner = joiner; epoch = epoch; tag = tag }
+sent_parts message change joiner epoch tag = record { message = message; change = change; joiner = joiner; epoch_secret = epoch; tag = tag }
 
 -- its parts, one after the other, as a speaker makes them
 module _ (c : Crypto) (m : Member) (s : Speaker) (carried : List Extension) (commit : Commit) (e : Edits) (t : Term) (secret : List ℕ) (speaks : Speaks m s) (said : FramedContent) (said_is : said ≡ content_by m (says.Commit commit))
@@ -75,7 +75,7 @@ module _ (c : Crypto) (m : Member) (s : Speaker) (carried : List Extension) (com
   change_as : change ≡ change_of m.public carried e t (framed_content.spell said) signature
   change_as = change_is ∙ (rw (bytes_are, signed_is, ← speaks.public) refl)
 
-  joiner_as : joiner ≡ joiner_secret (init_secret m.epoch) secret (group_context.spell change.context)
+  joiner_as : joiner ≡ joiner_secret (init_secret m.epoch_secret) secret (group_context.spell change.context)
   joiner_as = joiner_is ∙ ap (λ (l : List ℕ). joiner_secret (init_secret l) secret (group_context.spell change.context)) (sym speaks.epoch)
 
   sent_is : send_commit c m carried commit e t secret ≡ (require_within_limit message_of >> Ok (sent_parts message_of change joiner epoch tag))
@@ -103,7 +103,7 @@ module _ (p : PublicState) (carried : List Extension) (e : Edits) (t : Term) (sa
 
 -- a member with the parts of a speaker
 abbrev pub speaking : Speaker → Member
-speaking s = record { gone = false; public = s.group.now; epoch = s.epoch.now; keys = record { leaf = s.leaf; own = []; above = [] }; signing = s.signing.now; kept = []; pending = None }
+speaking s = record { gone = false; public = s.group.now; epoch_secret = s.epoch.now; keys = record { leaf = s.leaf; own = []; above = [] }; signing = s.signing.now; kept = []; pending = None }
 
 pub speaking_is : (s : Speaker) → Speaks (speaking s) s
 speaking_is s = record { public = refl; epoch = refl; leaf = refl; signing = refl }
@@ -169,7 +169,7 @@ welcome_is c m change made joiner tag seed [] = refl
 welcome_is c m change made joiner tag seed (x ∷ xs) = refl
 
 abbrev made_so : SentCommit → Option (List ℕ) → PublicState → PrivateKeys → Made
-made_so s welcome p keys = record { commit = s.message; welcome = welcome; pending = record { message = s.message; public = p; epoch = s.epoch; keys = keys } }
+made_so s welcome p keys = record { commit = s.message; welcome = welcome; pending = record { message = s.message; public = p; epoch_secret = s.epoch_secret; keys = keys } }
 
 if_fails : (c : Crypto) (m : Member) (used : List Used) (made : MadePath) (seed : List ℕ) (s : SentCommit) (n : ℕ) → welcome_if c m s.change made s.joiner s.tag seed (zip (adds used) s.change.edits.added) ≡ Err n → with_welcome c m used made seed s ≡ Err n
 unfolding with_welcome

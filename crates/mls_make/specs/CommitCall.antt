@@ -32,7 +32,7 @@ use Rattle.mls_make.specs.declared.send_commit.SentCommit.{SentCommit}
 
 -- the commit, the Welcome and the state that it leads to
 abbrev pub made_as : NewCommit → Made
-made_as v = record { commit = v.commit.items; welcome = option_map (λ w. w.items) v.welcome; pending = record { message = v.commit.items; public = v.group; epoch = v.epoch; keys = v.keys } }
+made_as v = record { commit = v.commit.items; welcome = option_map (λ w. w.items) v.welcome; pending = record { message = v.commit.items; public = v.group; epoch_secret = v.epoch; keys = v.keys } }
 
 -- a proposal in full encodes to fewer than 2^28 bytes, a kept one to fewer than 2^27
 abbrev pub IsShortUsed : Used → Type 0

@@ -42,12 +42,12 @@ pub record SentCommit : Type 0 where
   pub message : List ℕ
   pub change : Change
   pub joiner : List ℕ
-  pub epoch : List ℕ
+  pub epoch_secret : List ℕ
   pub tag : List ℕ
 
 -- a sent commit, as the definitions have it
 abbrev pub sent_as : declared.SentCommit → SentCommit
-sent_as s = record { message = s.message.items; change = s.change; joiner = s.joiner; epoch = s.epoch; tag = s.tag }
+sent_as s = record { message = s.message.items; change = s.change; joiner = s.joiner; epoch_secret = s.epoch; tag = s.tag }
 
 -- a commit that passes its checks, by the extensions that the group then carries, its edits, the tree with its path and
 -- its commit secret (RFC 9420, 12.4.1); 6 its message is too large
@@ -56,12 +56,12 @@ send_commit c m carried commit e t secret = do
   let said = content_by m (says.Commit commit)
   let signature = content_signature c m.signing said m.public.context
   let change = change_of m.public carried e t (framed_content.spell said) signature
-  let joiner = joiner_secret (init_secret m.epoch) secret (group_context.spell change.context)
+  let joiner = joiner_secret (init_secret m.epoch_secret) secret (group_context.spell change.context)
   let epoch = epoch_secret joiner (group_context.spell change.context)
   let tag = confirmation_tag epoch change.context.confirmed_transcript_hash
   let bytes = message_by m (signed_with said signature tag)
   require_within_limit bytes
-  Ok (record { message = bytes; change = change; joiner = joiner; epoch = epoch; tag = tag })
+  Ok (record { message = bytes; change = change; joiner = joiner; epoch_secret = epoch; tag = tag })
 
 -- a Welcome for those that are added to a group, where there are any, from the member at a leaf (RFC 9420, 12.4.3.1)
 unfoldable pub welcome_from : Crypto → List ℕ → ℕ → PublicState → List ℕ → List ℕ → (ℕ → List ℕ) → List ℕ → ℕ → List (KeyPackage × ℕ) → Result (Option (List ℕ)) ℕ
@@ -76,7 +76,7 @@ with_welcome c m used made seed s = do
   Ok (record {
     commit = s.message;
     welcome = welcome;
-    pending = record { message = s.message; public = public_with s.change s.tag; epoch = s.epoch; keys = with_keys m.keys made.climb.keys };
+    pending = record { message = s.message; public = public_with s.change s.tag; epoch_secret = s.epoch_secret; keys = with_keys m.keys made.climb.keys };
   })
 
 -- ---- what the parts of the code make

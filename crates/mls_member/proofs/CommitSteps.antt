@@ -93,7 +93,7 @@ unfolding with_epoch
 advanced_as m n p epoch keys gone signing public = rw (gone, signing, public) refl
 
 pub enters : (m n new : Member) (change : Change) (secret : List ℕ) (keys : PrivateKeys) (tag epoch : List ℕ) (effect : Effect) → n.gone ≡ m.gone → n.signing ≡ m.signing → n.public ≡ public_with change tag → new ≡ with_epoch n n.public epoch keys → effect ≡ Advanced n.public.context.epoch
-    → epoch ≡ next_epoch_secret (init_secret m.epoch) secret (group_context.spell change.context) → bytes_eq tag (confirmation_tag epoch change.context.confirmed_transcript_hash) ≡ true → enter_epoch_with m change secret keys tag ≡ Ok (effect, new)
+    → epoch ≡ next_epoch_secret (init_secret m.epoch_secret) secret (group_context.spell change.context) → bytes_eq tag (confirmation_tag epoch change.context.confirmed_transcript_hash) ≡ true → enter_epoch_with m change secret keys tag ≡ Ok (effect, new)
 unfolding enter_epoch_with public_with
 enters m n new change secret keys tag epoch effect gone signing public made told next right =
     let state = made ∙ advanced_as m n (public_with change tag) epoch keys gone signing public in

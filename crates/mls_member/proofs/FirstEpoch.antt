@@ -77,12 +77,12 @@ public_made c leaf group epoch x t bytes is tree spelled within = rw (sym is, sy
 
 -- a creation is the public state of epoch 0 with the candidate's keys
 pub created_is : (c : Crypto) (k : Candidate) (group seed : List ℕ) →
-    create_group c k group seed ≡ (first_public c k.offered.leaf_node group seed >>= λ q. Ok (record { gone = false; public = q; epoch = seed; keys = record { leaf = 0; own = k.leaf; above = [] }; signing = k.signing; kept = []; pending = None }))
+    create_group c k group seed ≡ (first_public c k.offered.leaf_node group seed >>= λ q. Ok (record { gone = false; public = q; epoch_secret = seed; keys = record { leaf = 0; own = k.leaf; above = [] }; signing = k.signing; kept = []; pending = None }))
 unfolding create_group first_public
 created_is c k group seed =
     after (require_within_limit (group_context.spell (first_context c group (Leaf (Some k.offered.leaf_node)))))
     (record { context = first_context c group (Leaf (Some k.offered.leaf_node)); tree = Leaf (Some k.offered.leaf_node); interim = interim_hash [] (confirmation_tag seed []) })
-    (λ q. record { gone = false; public = q; epoch = seed; keys = record { leaf = 0; own = k.leaf; above = [] }; signing = k.signing; kept = []; pending = None })
+    (λ q. record { gone = false; public = q; epoch_secret = seed; keys = record { leaf = 0; own = k.leaf; above = [] }; signing = k.signing; kept = []; pending = None })
 
 -- a member with its leaf's key alone
 keys_alone : (own sk : List ℕ) (above : Keys) → above ++ (Some own ∷ []) ≡ Some sk ∷ [] → (above ≡ []) × (own ≡ sk)
@@ -91,7 +91,7 @@ keys_alone own sk (x ∷ xs) h = absurd (let l = ap length h in omega (arith, le
 
 pub created_made : (c : Crypto) (k : Candidate) (group seed : List ℕ) (leaf : LeafNode) (epoch own signing : List ℕ) (kept : List KeptProposal) (q : PublicState) (p : PrivateKeys) → leaf ≡ k.offered.leaf_node → epoch ≡ seed → own ≡ k.leaf → signing ≡ k.signing → kept ≡ [] →
     first_public c leaf group epoch ≡ Ok q → p.leaf ≡ 0 → all_keys p ≡ Some own ∷ [] →
-    create_group c k group seed ≡ Ok (record { gone = false; public = q; epoch = epoch; keys = p; signing = signing; kept = kept; pending = None })
+    create_group c k group seed ≡ Ok (record { gone = false; public = q; epoch_secret = epoch; keys = p; signing = signing; kept = kept; pending = None })
 created_made c k group seed leaf epoch own signing kept q p leaf_is epoch_is own_is signing_is kept_is made at keys =
     let alone = keys_alone p.own own p.above keys in
     let made' : first_public c k.offered.leaf_node group seed ≡ Ok q = rw (sym leaf_is, sym epoch_is) made in

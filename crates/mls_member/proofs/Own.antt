@@ -46,7 +46,7 @@ use Rattle.mls_member.proofs.LengthLaws.{signed_parts, proposal_inside}
 -- a content is no longer than its message
 content_within : (m : Member) (v : SignedContent) → require_within_limit (message_by m v) ≡ Ok passed → length (framed_content.spell (framed v)) ≤ input_limit
 unfolding message_by
-content_within m v h = front _ (auth_data v) input_limit (signed_parts (record { content = v; membership_tag = content_tag m.epoch v m.public.context }) input_limit (length_within _ h))
+content_within m v h = front _ (auth_data v) input_limit (signed_parts (record { content = v; membership_tag = content_tag m.epoch_secret v m.public.context }) input_limit (length_within _ h))
 
 -- nor is a proposal
 said_within : (m : Member) (p : Proposal) → length (framed_content.spell (content_by m (says.Proposal p))) ≤ input_limit → length (proposal_format.spell p) ≤ input_limit

@@ -60,7 +60,7 @@ kept_message m reference = option_map (λ (k : KeptProposal). k.message) (kept_u
 
 -- the epoch secret that its pending commit leads to
 abbrev pub pending_secret : Member → Option (List ℕ)
-pending_secret m = option_map (λ (p : Pending). p.epoch) m.pending
+pending_secret m = option_map (λ (p : Pending). p.epoch_secret) m.pending
 
 -- a kept proposal, as a commit uses it
 abbrev pub used_kept : KeptProposal → Used

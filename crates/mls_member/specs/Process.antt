@@ -56,7 +56,7 @@ says_handshake (view_of.Commit proposals path) = true
 abbrev pub sender_of : Member → PublicMessage → Result LeafNode ℕ
 sender_of m v = do
   leaf ← sender_at m v.content.group_id v.content.epoch (sender_leaf v.content.sender) (is_handshake v.content.body)
-  require 46 (bytes_eq v.membership_tag (content_tag m.epoch v.content m.public.context))
+  require 46 (bytes_eq v.membership_tag (content_tag m.epoch_secret v.content m.public.context))
   Ok leaf
 
 -- 47 the signature, 48 the member's own leaf, and no proposal that it keeps (RFC 9420, 6.1)

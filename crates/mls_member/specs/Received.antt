@@ -78,7 +78,7 @@ RefusesSender m view result =
 abbrev pub TellsTag : Member → PublicMessageView → Bool → Type 0
 TellsTag m view b =
     (shown : PublicMessage) → ShowsPublic view shown →
-    b ≡ bytes_eq shown.membership_tag (content_tag m.epoch shown.content m.public.context)
+    b ≡ bytes_eq shown.membership_tag (content_tag m.epoch_secret shown.content m.public.context)
 
 -- it tells whether the signature is that of a signature key (RFC 9420, 6.1)
 abbrev pub TellsSigned : Crypto → Member → PublicMessageView → List ℕ → Bool → Type 0
@@ -149,7 +149,7 @@ OpensSecret c m committer r commit result =
 
 -- the epoch secret that a received commit leads to, by its commit secret (RFC 9420, 8)
 abbrev pub epoch_after : Member → List ℕ → Received → List ℕ
-epoch_after m secret r = next_epoch_secret (init_secret m.epoch) secret (group_context.spell r.change.context)
+epoch_after m secret r = next_epoch_secret (init_secret m.epoch_secret) secret (group_context.spell r.change.context)
 
 -- the confirmation tag that a received commit has in its epoch (RFC 9420, 8.1)
 abbrev pub tag_after : List ℕ → Received → List ℕ

@@ -41,14 +41,14 @@ saved_proposal_of k = record { reference = k.reference; message = k.message; pro
 
 -- a pending commit as it is saved
 abbrev pub saved_pending_of : Pending → SavedPending
-saved_pending_of p = record { message = p.message; state = saved_state_of p.public p.epoch p.keys }
+saved_pending_of p = record { message = p.message; state = saved_state_of p.public p.epoch_secret p.keys }
 
 -- a member as it is saved
 unfoldable pub saved_of : Member → SavedMember
 saved_of m =
     record {
       standing = standing_of m.gone;
-      state = saved_state_of m.public m.epoch m.keys;
+      state = saved_state_of m.public m.epoch_secret m.keys;
       signing = m.signing;
       kept = map saved_proposal_of m.kept;
       pending = option_map saved_pending_of m.pending;
@@ -89,7 +89,7 @@ load_all_kept (x ∷ xs) = do
 unfoldable pub load_pending : Crypto → SavedPending → Result Pending ℕ
 load_pending c p = do
   s ← load_state c p.state
-  Ok (record { message = p.message; public = s.group; epoch = s.epoch; keys = s.keys })
+  Ok (record { message = p.message; public = s.group; epoch_secret = s.epoch; keys = s.keys })
 
 abbrev pub load_if_pending : Crypto → Option SavedPending → Result (Option Pending) ℕ
 load_if_pending c None = Ok None
@@ -112,7 +112,7 @@ load_member c v = do
   Ok (record {
     gone = is_removed v.standing;
     public = now.group;
-    epoch = now.epoch;
+    epoch_secret = now.epoch;
     keys = now.keys;
     signing = signing;
     kept = kept;

@@ -47,7 +47,7 @@ impl<S: Suite> Model for Member<S> {
 
     ghost coded = { coded_member };
 
-    ghost view = { λ m. record { gone = m.gone; public = m.group; epoch = m.epoch; keys = m.keys; signing = m.signing; kept = m.kept.items; pending = m.pending } };
+    ghost view = { λ m. record { gone = m.gone; public = m.group; epoch_secret = m.epoch; keys = m.keys; signing = m.signing; kept = m.kept.items; pending = m.pending } };
 }
 
 impl<S: Suite> Member<S> {
@@ -67,7 +67,7 @@ impl<S: Suite> Member<S> {
 
     /// The secrets of the epoch.
     pub fn secrets(&self) -> &Epoch
-        ensures { result.now ≡ self.now.epoch }
+        ensures { result.now ≡ self.now.epoch_secret }
     {
         &self.epoch
     }

@@ -42,7 +42,7 @@ IsSignedBy c s said v =
 
 -- the bytes are the membership tag of a content under the context of the speaker's epoch (RFC 9420, 6.2)
 abbrev pub IsTagBy : Speaker → SignedContent → List ℕ → Type 0
-IsTagBy s v tag = (m : Member) → Speaks m s → tag ≡ content_tag m.epoch v m.public.context
+IsTagBy s v tag = (m : Member) → Speaks m s → tag ≡ content_tag m.epoch_secret v m.public.context
 
 -- the text is the speaker's message of a content, and no larger than a message may be
 abbrev pub IsMessageBy : Speaker → SignedContent → List ℕ → Type 0

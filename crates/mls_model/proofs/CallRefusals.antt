@@ -162,7 +162,7 @@ make_refused c m list wants_path seed n h =
     let signature = content_signature c m.signing said m.public.context in
     bind_refused (change_after_edits c m.public m.keys.leaf used commit said signature e) _ n h6
     (λ g. widen body_numbers make_numbers n refl (after_edits_refused c m.public m.keys.leaf used commit said signature e n g)) (λ change h7.
-    let joiner = joiner_secret (init_secret m.epoch) made.climb.secret (group_context.spell change.context) in
+    let joiner = joiner_secret (init_secret m.epoch_secret) made.climb.secret (group_context.spell change.context) in
     let epoch = epoch_secret joiner (group_context.spell change.context) in
     let tag = confirmation_tag epoch change.context.confirmed_transcript_hash in
     then_refused (require_within_limit (message_by m (signed_with said signature tag))) _ n h7 (λ g. is_one make_numbers 6 n refl (limit_refused (message_by m (signed_with said signature tag)) n g)) (λ h8.

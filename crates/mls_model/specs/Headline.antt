@@ -58,7 +58,7 @@ pub record FollowsCommit (c : Crypto) (w : World) (k : ℕ) (s : Seat) (source :
   pub is_after : IsActive (step c w (Deliver k source)).1 k after
   pub context : after.member.public.context.epoch ≡ s.member.public.context.epoch + 1
   pub journal : after.journal ≡ with_entry s.journal d.entry
-  pub epoch : after.member.epoch ≡ d.epoch
+  pub epoch : after.member.epoch_secret ≡ d.epoch_secret
 
 -- a member answers that it was removed, and is active no more; its journal is as it was
 pub record LeavesGroup (c : Crypto) (w : World) (k : ℕ) (s : Seat) (source : Source) : Type 0 where
@@ -110,7 +110,7 @@ pub record JoinsGroup (c : Crypto) (w : World) (n : ℕ) (source : Source) (d : 
   pub is_after : IsActive (step c w (Join n source)).1 (length w.seats) after
   pub one_more : length (step c w (Join n source)).1.seats ≡ length w.seats + 1
   pub journal : after.journal ≡ with_entry d.journal d.entry
-  pub epoch : after.member.epoch ≡ d.epoch
+  pub epoch : after.member.epoch_secret ≡ d.epoch_secret
 
 -- candidate n isn't spent, and a commit adds its own KeyPackage
 pub record IsAdded (w : World) (n : ℕ) (e : Entrant) (d : CommitMade) : Type 0 where
@@ -192,7 +192,7 @@ pub record IsPendingOf (w : World) (k : ℕ) (s : Seat) (p : Pending) : Type 0 w
   pub journal : which.journal ≡ s.journal
   pub commit : which.entry.commit ≡ p.message
   pub names : which.entry.names ≡ names_in s.member.kept (list_in p.message)
-  pub epoch : which.epoch ≡ p.epoch
+  pub epoch : which.epoch_secret ≡ p.epoch_secret
 
 -- the pending commit of each active member is one that it made
 abbrev pub PendingWasMade : World → Type 0
@@ -206,7 +206,7 @@ pub record FollowsPending (c : Crypto) (w : World) (k : ℕ) (s : Seat) (p : Pen
   pub is_after : IsActive (step c w (Deliver k source)).1 k after
   pub public : after.member.public ≡ p.public
   pub journal : after.journal ≡ with_entry s.journal (entry_of s.member p.message)
-  pub epoch : after.member.epoch ≡ p.epoch
+  pub epoch : after.member.epoch_secret ≡ p.epoch_secret
 
 -- an active member follows the commit that it holds as its pending one
 abbrev pub FollowsOwn : Crypto → World → Type 0

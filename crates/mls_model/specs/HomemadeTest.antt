@@ -46,7 +46,7 @@ is_creation (from.GroupInfo g) = false
 
 -- the epoch secrets that commit calls reached which made this entry at this journal
 unfoldable pub reached_epochs : List CommitMade → Journal → Entry → List (List ℕ)
-reached_epochs made j e = map (λ (d : CommitMade). d.epoch)
+reached_epochs made j e = map (λ (d : CommitMade). d.epoch_secret)
     (filter (λ (d : CommitMade). is_same_journal d.journal j && is_same_entry d.entry e) made)
 
 -- whether a list of epoch secrets has one value, and no other

@@ -84,7 +84,7 @@ enter_group k o t keys = do
         tree = t;
         interim = interim_hash context.confirmed_transcript_hash o.info.confirmation_tag;
       };
-      epoch = epoch;
+      epoch_secret = epoch;
       keys = keys;
       signing = k.signing;
       kept = [];

@@ -68,7 +68,7 @@ pub record IsGoodPending (c : Crypto) (m : Member) (p : Pending) : Type 0 where
   pub uses : find_proposals m.kept m.keys.leaf commit.proposals ≡ Ok used
   pub next : next_public c m.public m.keys.leaf used commit (framed said.content) said.content.signature tag
       ≡ Ok p.public
-  pub confirmed : tag ≡ confirmation_tag p.epoch p.public.context.confirmed_transcript_hash
+  pub confirmed : tag ≡ confirmation_tag p.epoch_secret p.public.context.confirmed_transcript_hash
   pub keys : HasExact c p.public.tree p.keys
   pub leaf : p.keys.leaf ≡ m.keys.leaf
 

@@ -85,7 +85,7 @@ content_tag epoch v context = membership_tag epoch (authenticated_content_tbm fo
 unfoldable pub message_by : Member → SignedContent → List ℕ
 message_by m v =
     mls_message.spell
-    (message.PublicMessage (record { content = v; membership_tag = content_tag m.epoch v m.public.context }))
+    (message.PublicMessage (record { content = v; membership_tag = content_tag m.epoch_secret v m.public.context }))
 
 -- the reference of a proposal (RFC 9420, 5.2)
 unfoldable pub reference_of : SignedContent → List ℕ

@@ -31,7 +31,7 @@ pub record IsFramed (c : Crypto) (m : Member) (v : PublicMessage) (bytes : List 
   pub leaf : LeafNode
   pub sender : leaf_of m.public.tree (sender_leaf v.content.sender) ≡ Some leaf
   pub handshake : is_handshake v.content.body ≡ true
-  pub tag : bytes_eq v.membership_tag (content_tag m.epoch v.content m.public.context) ≡ true
+  pub tag : bytes_eq v.membership_tag (content_tag m.epoch_secret v.content m.public.context) ≡ true
   pub signed : is_content_signed c leaf.signature_key v.content m.public.context ≡ true
   pub other : (not (sender_leaf v.content.sender == m.keys.leaf) || is_kept m.kept bytes) ≡ true
 
@@ -67,7 +67,8 @@ pub record WasRemoved (m : Member) (used : List Used) (x : Effect × Member) : T
 
 -- the epoch secret that a member reaches
 unfoldable pub reached_epoch : Member → Change → Climb → List ℕ
-reached_epoch m change climb = next_epoch_secret (init_secret m.epoch) climb.secret (group_context.spell change.context)
+reached_epoch m change climb =
+    next_epoch_secret (init_secret m.epoch_secret) climb.secret (group_context.spell change.context)
 
 -- a member followed a commit that wasn't its pending one
 pub record HasFollowed (c : Crypto) (m : Member) (v : SignedContent) (commit : Commit) (tag : List ℕ) (used : List Used)
@@ -88,4 +89,4 @@ pub record DidPending (m : Member) (bytes : List ℕ) (x : Effect × Member) : T
   pub pending : Pending
   pub is_pending : m.pending ≡ Some pending
   pub is_message : bytes_eq pending.message bytes ≡ true
-  pub is : (Advanced pending.public.context.epoch, with_epoch m pending.public pending.epoch pending.keys) ≡ x
+  pub is : (Advanced pending.public.context.epoch, with_epoch m pending.public pending.epoch_secret pending.keys) ≡ x

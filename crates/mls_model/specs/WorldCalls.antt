@@ -101,7 +101,7 @@ commit_record w k s list made = record {
   maker = k;
   journal = s.journal;
   entry = record { commit = made.commit; names = names_in s.member.kept list };
-  epoch = made.pending.epoch;
+  epoch_secret = made.pending.epoch_secret;
   adds = adds_in s.member.kept list;
   welcome = option_map (λ bytes. (length w.messages + 1, bytes)) made.welcome;
 }

@@ -22,7 +22,7 @@ entry_with n = record { commit = n ∷ []; names = [] }
 -- a commit with this one byte was made at this journal and reached this epoch secret
 abbrev pub made_at : Journal → ℕ → ℕ → CommitMade
 made_at j n epoch =
-    record { maker = 0; journal = j; entry = entry_with n; epoch = epoch ∷ []; adds = []; welcome = None }
+    record { maker = 0; journal = j; entry = entry_with n; epoch_secret = epoch ∷ []; adds = []; welcome = None }
 
 abbrev pub created_0 : Journal
 created_0 = new_journal (Creation 0)
@@ -65,7 +65,7 @@ welcoming adds number bytes =
       maker = 0;
       journal = created_0;
       entry = entry_with 1;
-      epoch = [];
+      epoch_secret = [];
       adds = adds;
       welcome = Some (number, bytes);
     }

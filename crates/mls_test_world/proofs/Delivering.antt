@@ -296,7 +296,7 @@ progress c d place (event.DropPending l ∷ es) w made home h each once = absurd
 holds_last : (c : Crypto) (w : World) (es : List Event) → HoldsAlong c w es → Headline c (run c w es)
 holds_last c w es h = subst (λ (l : List Event). Headline c (run c w l)) (take_all (length es) es (omega arith)) (h (length es))
 
-agree_epochs : (m n : Member) → m.epoch ≡ n.epoch → AgreeSecret m n
+agree_epochs : (m n : Member) → m.epoch_secret ≡ n.epoch_secret → AgreeSecret m n
 agree_epochs m n e = record { epoch = e; nine = cc }
 
 all_agree : (c : Crypto) (w : World) (events : List Event) → HoldsAlong c w events → CommitsReachAll w events (run c w events)
@@ -318,18 +318,18 @@ all_agree c w events h d x =
     last : Headline c v
     last = holds_last c w events h
 
-    at_next : (k : ℕ) (s : Seat) → IsActive v k s → IsNext v d k → (s.journal ≡ with_entry d.journal d.entry) × (s.member.epoch ≡ d.epoch)
+    at_next : (k : ℕ) (s : Seat) → IsActive v k s → IsNext v d k → (s.journal ≡ with_entry d.journal d.entry) × (s.member.epoch_secret ≡ d.epoch_secret)
     at_next k s a n =
         let one : n.seat ≡ s = one_there (slice_get v.seats k) n.seat s n.active.is a.is in
-        (ap (λ (t : Seat). t.journal) (sym one) ∙ n.journal, ap (λ (t : Seat). t.member.epoch) (sym one) ∙ n.epoch)
+        (ap (λ (t : Seat). t.journal) (sym one) ∙ n.journal, ap (λ (t : Seat). t.member.epoch_secret) (sym one) ∙ n.epoch)
 
-    by_outcome : (k : ℕ) (s t : Seat) → IsActive v k s → FollowsOrLeaves v d k t → (s.journal ≡ with_entry d.journal d.entry) × (s.member.epoch ≡ d.epoch)
+    by_outcome : (k : ℕ) (s t : Seat) → IsActive v k s → FollowsOrLeaves v d k t → (s.journal ≡ with_entry d.journal d.entry) × (s.member.epoch_secret ≡ d.epoch_secret)
     by_outcome k s t a (inl n) = at_next k s a n.1
     by_outcome k s t a (inr g) =
         let one : g.1.seat ≡ s = one_there (slice_get v.seats k) g.1.seat s g.1.is a.is in
         absurd (true≢false (sym g.1.gone ∙ ap (λ (y : Seat). y.member.gone) one ∙ a.active))
 
-    where_it_stands : (k : ℕ) (s : Seat) → TookPart w events k → IsActive v k s → (s.journal ≡ with_entry d.journal d.entry) × (s.member.epoch ≡ d.epoch)
+    where_it_stands : (k : ℕ) (s : Seat) → TookPart w events k → IsActive v k s → (s.journal ≡ with_entry d.journal d.entry) × (s.member.epoch_secret ≡ d.epoch_secret)
     where_it_stands k s (inl to) a =
         let r = all_at (IsDelivery w d) events to.place (Deliver k to.source) x.each to.is in
         by_outcome k s r.0.0 a (p.receivers k to.place to.source r.0.0 to.is r.0.1.active.is)

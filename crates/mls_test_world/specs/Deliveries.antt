@@ -19,7 +19,7 @@ pub record HasPending (s : Seat) (d : CommitMade) : Type 0 where
   pub pending : Pending
   pub is : s.member.pending ≡ Some pending
   pub message : pending.message ≡ d.entry.commit
-  pub epoch : pending.epoch ≡ d.epoch
+  pub epoch : pending.epoch_secret ≡ d.epoch_secret
 
 -- member k made the commit and has it pending, or is another and keeps under each reference that the commit names the
 -- very message that the maker named
@@ -70,7 +70,7 @@ pub record IsNext (v : World) (d : CommitMade) (k : ℕ) : Type 0 where
   pub seat : Seat
   pub active : IsActive v k seat
   pub journal : seat.journal ≡ with_entry d.journal d.entry
-  pub epoch : seat.member.epoch ≡ d.epoch
+  pub epoch : seat.member.epoch_secret ≡ d.epoch_secret
 
 -- member k was removed
 pub record IsGone (v : World) (k : ℕ) : Type 0 where

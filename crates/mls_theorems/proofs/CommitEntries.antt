@@ -90,7 +90,7 @@ along_commit c m bytes epoch after v commit tag kept reads says d f =
       epoch_is = advanced_is _ _ _ _ f.is ∙ ap (λ (x : Member). x.public.context.epoch) is;
       tag = tag;
       is_tag = tag_at bytes v commit tag reads says;
-      confirmed = ap (λ (x : Member). confirmation_tag x.epoch x.public.context.confirmed_transcript_hash) (sym is) ∙ sym ((bytes_eq-Decides _ _).0 f.confirmed);
+      confirmed = ap (λ (x : Member). confirmation_tag x.epoch_secret x.public.context.confirmed_transcript_hash) (sym is) ∙ sym ((bytes_eq-Decides _ _).0 f.confirmed);
       signing = ap (λ (x : Member). x.signing) (sym is);
       leaf = ap (λ (x : Member). x.keys.leaf) (sym is);
       active = ap (λ (x : Member). x.gone) (sym is);
@@ -129,5 +129,5 @@ made_along c m list made is =
       lists = list_at made.commit v (commit_of list k.path) tag reads says;
       public = entry_at c m.public made.commit (names_in m.kept list) v (commit_of list k.path) tag k.used k.change reads says (used_by_entry c m m.kept m.keys.leaf list k.used is.good.kept k.uses) k.change_is
           ∙ ap (λ (x : Made). into_state x.pending.public) k.made_is;
-      is_tag = tag_at made.commit v (commit_of list k.path) tag reads says ∙ ap (λ (x : Made). some_bytes (confirmation_tag x.pending.epoch x.pending.public.context.confirmed_transcript_hash)) k.made_is;
+      is_tag = tag_at made.commit v (commit_of list k.path) tag reads says ∙ ap (λ (x : Made). some_bytes (confirmation_tag x.pending.epoch_secret x.pending.public.context.confirmed_transcript_hash)) k.made_is;
     }

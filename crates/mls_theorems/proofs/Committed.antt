@@ -97,7 +97,7 @@ unfoldable first_member : Crypto → Candidate → List ℕ → List ℕ → Mem
 first_member c k group seed = record {
   gone = false;
   public = record { context = first_context c group (Leaf (Some k.offered.leaf_node)); tree = Leaf (Some k.offered.leaf_node); interim = interim_hash [] (confirmation_tag seed []) };
-  epoch = seed;
+  epoch_secret = seed;
   keys = record { leaf = 0; own = k.leaf; above = [] };
   signing = k.signing;
   kept = [];

@@ -172,7 +172,7 @@ unfolding public_with
 tree_with change tag q e = ap (λ (y : PublicState). y.tree) e
 
 -- and over its own pending commit
-pub pending_leads : (c : Crypto) (m : Member) (p : Pending) → IsGoodMember c m → IsGoodPending c m p → IsGoodMember c (with_epoch m p.public p.epoch p.keys)
+pub pending_leads : (c : Crypto) (m : Member) (p : Pending) → IsGoodMember c m → IsGoodPending c m p → IsGoodMember c (with_epoch m p.public p.epoch_secret p.keys)
 unfolding next_public
 pending_leads c m p good h =
     let s = bind_ok _ _ _ h.next in
@@ -185,7 +185,7 @@ pending_leads c m p good h =
     let e = edited_steps c m.public m.keys.leaf h.used change.edits b.edits in
     let signed = signatures_next c m.public m.keys.leaf h.used h.commit (framed_of h.said) h.said.content.signature change m.keys.leaf good.own passed mine s.1 good.is_own e.not_removed in
     let exact : HasExact c change.tree p.keys = subst (λ (t : Term). HasExact c t p.keys) (sym (tree_with change h.tag p.public public)) h.keys in
-    subst (λ (q : PublicState). IsGoodMember c (with_epoch m q p.epoch p.keys)) public (next_good c m change h.tag p.epoch p.keys good next h.leaf exact signed)
+    subst (λ (q : PublicState). IsGoodMember c (with_epoch m q p.epoch_secret p.keys)) public (next_good c m change h.tag p.epoch_secret p.keys good next h.leaf exact signed)
 
 -- ---- any bytes
 
@@ -209,7 +209,7 @@ delivered_good c m bytes x good are h = by_case (did_take c m bytes x h).did
     by_case : DidPending m bytes x ⊎ DidOther c m bytes x → IsGoodMember c x.1
     by_case (inl d) =
         let p : IsGoodPending c m d.pending = subst (IsGoodIfPending c m) d.is_pending good.pending in
-        after_is (IsGoodMember c) (Advanced d.pending.public.context.epoch) (with_epoch m d.pending.public d.pending.epoch d.pending.keys) x d.is (pending_leads c m d.pending good p)
+        after_is (IsGoodMember c) (Advanced d.pending.public.context.epoch) (with_epoch m d.pending.public d.pending.epoch_secret d.pending.keys) x d.is (pending_leads c m d.pending good p)
     by_case (inr d) =
         let r : ReceivedDid c m bytes x = did_receive c m bytes x d.is in
         content_good c m bytes r.said r.said.content.body x good are r.decodes r.is_framed refl r.did

@@ -89,28 +89,28 @@ next_epoch c p q i used commit said signature tag h =
     omega (arith, d, e)
 
 -- its pending commit
-own_steps : (c : Crypto) (w : World) (k : ℕ) (s : Seat) (bytes : List ℕ) (p : Pending) → IsPendingOf w k s p → p.message ≡ bytes → verdict c s.member bytes ≡ Ok (Advanced p.public.context.epoch, with_epoch s.member p.public p.epoch p.keys) →
-    IsReachedOver c w.made s.journal s.member (entry_of s.member bytes) (with_epoch s.member p.public p.epoch p.keys)
+own_steps : (c : Crypto) (w : World) (k : ℕ) (s : Seat) (bytes : List ℕ) (p : Pending) → IsPendingOf w k s p → p.message ≡ bytes → verdict c s.member bytes ≡ Ok (Advanced p.public.context.epoch, with_epoch s.member p.public p.epoch_secret p.keys) →
+    IsReachedOver c w.made s.journal s.member (entry_of s.member bytes) (with_epoch s.member p.public p.epoch_secret p.keys)
 unfolding entry_of with_epoch
 own_steps c w k s bytes p q same h = inr (inl (record {
   which = q.which;
   here = record { place = q.place; is = q.is; journal = q.journal; entry = ap₂ entry_with (q.commit ∙ same) (q.names ∙ ap (λ (b : List ℕ). names_in s.member.kept (list_in b)) same) };
   reaches = q.epoch;
   epoch = p.public.context.epoch;
-  after = with_epoch s.member p.public p.epoch p.keys;
+  after = with_epoch s.member p.public p.epoch_secret p.keys;
   is = h;
   entry = refl;
-  same = same_itself (with_epoch s.member p.public p.epoch p.keys);
+  same = same_itself (with_epoch s.member p.public p.epoch_secret p.keys);
 }))
 
 follows_own : (c : Crypto) (creations : Creations) (w : World) (k : ℕ) (s : Seat) (bytes : List ℕ) (p : Pending) → IsGoodBy c creations w → slice_get w.seats k ≡ Some s → s.member.gone ≡ false → s.member.pending ≡ Some p → p.message ≡ bytes →
-    verdict c s.member bytes ≡ Ok (Advanced p.public.context.epoch, with_epoch s.member p.public p.epoch p.keys) → IsGoodMember c (with_epoch s.member p.public p.epoch p.keys) →
-    IsGoodBy c creations (world_by w k s bytes (Advanced p.public.context.epoch, with_epoch s.member p.public p.epoch p.keys))
+    verdict c s.member bytes ≡ Ok (Advanced p.public.context.epoch, with_epoch s.member p.public p.epoch_secret p.keys) → IsGoodMember c (with_epoch s.member p.public p.epoch_secret p.keys) →
+    IsGoodBy c creations (world_by w k s bytes (Advanced p.public.context.epoch, with_epoch s.member p.public p.epoch_secret p.keys))
 follows_own c creations w k s bytes p g at active is same h good =
     let a = g.members k s (record { is = at; active = active }) in
     let q : IsGoodPending c s.member p = subst (IsGoodIfPending c s.member) is a.good.pending in
-    let f = fresh s.member p.public p.epoch p.keys in
-    advances c creations w k s (with_epoch s.member p.public p.epoch p.keys) (entry_of s.member bytes) g at active f.0
+    let f = fresh s.member p.public p.epoch_secret p.keys in
+    advances c creations w k s (with_epoch s.member p.public p.epoch_secret p.keys) (entry_of s.member bytes) g at active f.0
     (f.2 (next_epoch c s.member.public p.public s.member.keys.leaf q.used q.commit (framed q.said.content) q.said.content.signature q.tag q.next)) f.1 good
     (own_steps c w k s bytes p (g.pending k s p (record { is = at; active = active }) is) same h)
 

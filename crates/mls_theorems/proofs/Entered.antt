@@ -151,7 +151,7 @@ joined_by k o t keys = record {
   member = record {
     gone = false;
     public = record { context = o.info.group_context; tree = t; interim = interim_hash o.info.group_context.confirmed_transcript_hash o.info.confirmation_tag };
-    epoch = epoch_secret o.joiner (group_context.spell o.info.group_context);
+    epoch_secret = epoch_secret o.joiner (group_context.spell o.info.group_context);
     keys = keys;
     signing = k.signing;
     kept = [];

@@ -56,7 +56,7 @@ joins_by : (c : Crypto) (k : Candidate) (o : Opened) (t : Term) (place : ℕ × 
       member = record {
         gone = false;
         public = record { context = o.info.group_context; tree = t; interim = interim_hash o.info.group_context.confirmed_transcript_hash o.info.confirmation_tag };
-        epoch = epoch;
+        epoch_secret = epoch;
         keys = keys;
         signing = k.signing;
         kept = [];

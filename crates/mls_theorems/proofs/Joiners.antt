@@ -159,7 +159,7 @@ module _ (c : Crypto) (laws : Lawful c) (m : Member) (list : List ProposalOrRef)
   -- 65, and the whole
   joined : JoinedMember
   joined = record {
-    member = record { gone = false; public = public_with s.change (tag_of m s.path s.change); epoch = epoch_secret (joiner_of m s.path s.change) (group_context.spell s.change.context); keys = keys.0; signing = k.signing; kept = []; pending = None };
+    member = record { gone = false; public = public_with s.change (tag_of m s.path s.change); epoch_secret = epoch_secret (joiner_of m s.path s.change) (group_context.spell s.change.context); keys = keys.0; signing = k.signing; kept = []; pending = None };
     info = group_info.spell (info_made c m s.path s.change);
   }
 
@@ -178,7 +178,7 @@ module _ (c : Crypto) (laws : Lawful c) (m : Member) (list : List ProposalOrRef)
       joined = joined;
       is = rw opens becomes;
       public = ap (λ (x : Made). x.pending.public) s.made_is;
-      epoch = ap (λ (x : Made). x.pending.epoch) s.made_is;
+      epoch = ap (λ (x : Made). x.pending.epoch_secret) s.made_is;
     };
     active = refl;
     apart = λ e. j.joins.other (sym (e ∙ keys_at c s.change.tree m.keys.leaf j.entry.leaf k.leaf (secret_made m s.path s.change is.seed j.entry.leaf) keys.0 keys.1));

@@ -62,11 +62,11 @@ public_agreement c creations origin entries m n a b = agree_by m n (one_state m.
 pub secret_agreement : SecretAgreement
 secret_agreement c creations origin entries m n tag a b last =
     let same = public_agreement c creations origin entries m n a b in
-    let tags : confirmation_tag m.epoch m.public.context.confirmed_transcript_hash ≡ confirmation_tag n.epoch m.public.context.confirmed_transcript_hash =
-    a.tagged tag last ∙ sym (b.tagged tag last) ∙ ap (confirmation_tag n.epoch) (sym same.confirmed) in
-    by_one (one_or_twins m.epoch n.epoch m.public.context.confirmed_transcript_hash tags)
+    let tags : confirmation_tag m.epoch_secret m.public.context.confirmed_transcript_hash ≡ confirmation_tag n.epoch_secret m.public.context.confirmed_transcript_hash =
+    a.tagged tag last ∙ sym (b.tagged tag last) ∙ ap (confirmation_tag n.epoch_secret) (sym same.confirmed) in
+    by_one (one_or_twins m.epoch_secret n.epoch_secret m.public.context.confirmed_transcript_hash tags)
   where
-    by_one : AreOne m.epoch n.epoch ⊎ Twins m.epoch n.epoch m.public.context.confirmed_transcript_hash → AgreeOrTwins m n
+    by_one : AreOne m.epoch_secret n.epoch_secret ⊎ Twins m.epoch_secret n.epoch_secret m.public.context.confirmed_transcript_hash → AgreeOrTwins m n
     by_one (inl one) = inl (record { epoch = one.epoch; nine = one.nine })
     by_one (inr twins) = inr twins
 
@@ -154,7 +154,7 @@ joins_here_along c creations origin entries maker list made k welcome joins alon
       public = more_along c creations origin entries maker e joins.joined.member.public along (a.public ∙ ap Ok (sym joins.public));
       tagged = λ tag last.
           ap (λ (s : List ℕ). confirmation_tag s joins.joined.member.public.context.confirmed_transcript_hash) joins.epoch
-          ∙ ap (λ (p : PublicState). confirmation_tag made.pending.epoch p.context.confirmed_transcript_hash) joins.public
+          ∙ ap (λ (p : PublicState). confirmation_tag made.pending.epoch_secret p.context.confirmed_transcript_hash) joins.public
           ∙ one_tag _ tag (tag_of_message (decode_message made.commit)) a.is_tag (sym (last_more origin e entries) ∙ last);
     }
 
@@ -173,7 +173,7 @@ pending_along c m p bytes good h same =
     ∙ s.2
 
 own_along : (c : Crypto) (creations : Creations) (origin : Origin) (entries : List Entry) (m : Member) (p : Pending) (bytes : List ℕ) → IsGoodMember c m → StandsAtJournal c creations origin entries m → IsGoodPending c m p → p.message ≡ bytes →
-    StandsAtJournal c creations origin (entry_of m bytes ∷ entries) (with_epoch m p.public p.epoch p.keys)
+    StandsAtJournal c creations origin (entry_of m bytes ∷ entries) (with_epoch m p.public p.epoch_secret p.keys)
 unfolding with_epoch entry_of
 own_along c creations origin entries m p bytes good along h same = record {
   public = more_along c creations origin entries m (entry_of m bytes) p.public along (pending_along c m p bytes good h same);
@@ -202,7 +202,7 @@ deliveries_along c creations origin entries m bytes epoch after good along h = b
 pub states_along : StatesAlong
 states_along c creations origin entries m n same along = record {
   public = along.public ∙ ap Ok same.public;
-  tagged = λ tag last. ap (λ (s : List ℕ). confirmation_tag s n.public.context.confirmed_transcript_hash) (sym same.epoch) ∙ ap (λ (p : PublicState). confirmation_tag m.epoch p.context.confirmed_transcript_hash) (sym same.public) ∙ along.tagged tag last;
+  tagged = λ tag last. ap (λ (s : List ℕ). confirmation_tag s n.public.context.confirmed_transcript_hash) (sym same.epoch) ∙ ap (λ (p : PublicState). confirmation_tag m.epoch_secret p.context.confirmed_transcript_hash) (sym same.public) ∙ along.tagged tag last;
 }
 
 pub same_itself : (m : Member) → IsSameState m m

@@ -82,7 +82,7 @@ by_fits c m x good fits lt =
 
 -- the message of a proposal
 unfoldable sent_as : Crypto → Member → Proposal → PublicMessage
-sent_as c m x = record { content = proposal_by c m x; membership_tag = content_tag m.epoch (proposal_by c m x) m.public.context }
+sent_as c m x = record { content = proposal_by c m x; membership_tag = content_tag m.epoch_secret (proposal_by c m x) m.public.context }
 
 sent_is : (c : Crypto) (m : Member) (x : Proposal) → message_by m (proposal_by c m x) ≡ mls_message.spell (message.PublicMessage (sent_as c m x))
 unfolding message_by sent_as
@@ -90,7 +90,7 @@ sent_is c m x = refl
 
 sent_fits : (c : Crypto) (m : Member) (x : Proposal) → IsGoodMember c m → FitsIfShort x → length (mls_message.spell (message.PublicMessage (sent_as c m x))) < 2 ^ 30 → mls_message.Fits (message.PublicMessage (sent_as c m x))
 unfolding sent_as
-sent_fits c m x good fits lt = message_fits (proposal_by c m x) (content_tag m.epoch (proposal_by c m x) m.public.context) (by_fits c m x good fits) lt
+sent_fits c m x good fits lt = message_fits (proposal_by c m x) (content_tag m.epoch_secret (proposal_by c m x) m.public.context) (by_fits c m x good fits) lt
 
 proposal_reads : (c : Crypto) (m : Member) (x : Proposal) → IsGoodMember c m → FitsIfShort x → require_within_limit (message_by m (proposal_by c m x)) ≡ Ok passed → ReadsBack (message_by m (proposal_by c m x)) (sent_as c m x)
 unfolding decode_message

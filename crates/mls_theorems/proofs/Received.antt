@@ -89,7 +89,7 @@ advanced_by c m v commit tag used change climb e1 e2 e3 e4 e5 e6 = rw (e1, e2, e
 
 -- ---- the epoch secret
 
-same_epoch : (maker m : Member) (path : MadePath) (change : Change) (climb : Climb) → maker.epoch ≡ m.epoch → climb.secret ≡ path.climb.secret → reached_epoch m change climb ≡ epoch_of maker path change
+same_epoch : (maker m : Member) (path : MadePath) (change : Change) (climb : Climb) → maker.epoch_secret ≡ m.epoch_secret → climb.secret ≡ path.climb.secret → reached_epoch m change climb ≡ epoch_of maker path change
 unfolding reached_epoch epoch_of joiner_of next_epoch_secret
 same_epoch maker m path change climb e s =
     ap₂ (λ (x y : List ℕ). epoch_secret (joiner_secret (init_secret x) y (group_context.spell change.context)) (group_context.spell change.context)) (sym e) s
@@ -158,7 +158,7 @@ follows_claim c laws maker m list wants_path seed made k secret agree here stays
           ∙ advanced_by c m (content_of c maker list s.path s.change) (commit_of list s.path) tag s.used s.change climbs.climb k.below k.uses k.change_is here climbs.is confirmed
           ∙ ap (λ (n : ℕ). into n after) next;
       public = ap (λ (x : Made). x.pending.public) s.made_is;
-      epoch = epoch ∙ ap (λ (x : Made). x.pending.epoch) s.made_is;
+      epoch = epoch ∙ ap (λ (x : Made). x.pending.epoch_secret) s.made_is;
     }
 
 pub receivers_of_staying : ReceiversOfStaying

@@ -84,25 +84,25 @@ received_as c m bytes x free h = by_case (did_take c m bytes x h).did
 one_answer : (r : Result (Effect × Member) ℕ) (x y : Effect × Member) → r ≡ Ok x → r ≡ Ok y → x ≡ y
 one_answer r x y a b = ok_is x y (sym a ∙ b)
 
-pub agree_secret : (m n : Member) → m.epoch ≡ n.epoch → AgreeSecret m n
+pub agree_secret : (m n : Member) → m.epoch_secret ≡ n.epoch_secret → AgreeSecret m n
 agree_secret m n e = record { epoch = e; nine = ap nine_secrets e }
 
 -- it reached the maker's secret
-reached_by : (c : Crypto) (maker before m : Member) (list : List ProposalOrRef) (call : Made) (bytes : List ℕ) (epoch : ℕ) (after : Member) → call.commit ≡ bytes → verdict c before bytes ≡ Ok (Advanced epoch, after) → Receives c before list call → after.epoch ≡ call.pending.epoch
+reached_by : (c : Crypto) (maker before m : Member) (list : List ProposalOrRef) (call : Made) (bytes : List ℕ) (epoch : ℕ) (after : Member) → call.commit ≡ bytes → verdict c before bytes ≡ Ok (Advanced epoch, after) → Receives c before list call → after.epoch_secret ≡ call.pending.epoch_secret
 reached_by c maker before m list call bytes epoch after same is claim = by_test (has (removes_in before.kept list) before.keys.leaf) refl
   where
     here : verdict c before call.commit ≡ Ok (Advanced epoch, after)
     here = ap (verdict c before) same ∙ is
 
-    by_test : (b : Bool) → has (removes_in before.kept list) before.keys.leaf ≡ b → after.epoch ≡ call.pending.epoch
+    by_test : (b : Bool) → has (removes_in before.kept list) before.keys.leaf ≡ b → after.epoch_secret ≡ call.pending.epoch_secret
     by_test true e = absurd (removed_is (after_removal before) after epoch (one_answer (verdict c before call.commit) _ _ (claim.removed e) here))
     by_test false e =
         let f : FollowsTo c before call = claim.follows e in
-        sym (ap (λ (x : Effect × Member). x.1.epoch) (one_answer (verdict c before call.commit) _ _ f.is here)) ∙ f.epoch
+        sym (ap (λ (x : Effect × Member). x.1.epoch_secret) (one_answer (verdict c before call.commit) _ _ f.is here)) ∙ f.epoch
 
 -- who follows another's commit reaches the secret that its maker reached
-pub followed_secret : (c : Crypto) → Lawful c → (maker before m : Member) (list : List ProposalOrRef) (call : Made) (e : Entry) → IsMade c maker list call → IsGoodMember c before → Agree maker before → maker.epoch ≡ before.epoch →
-    call.commit ≡ e.commit → names_in maker.kept list ≡ e.names → FollowedOther c before e m → m.epoch ≡ call.pending.epoch
+pub followed_secret : (c : Crypto) → Lawful c → (maker before m : Member) (list : List ProposalOrRef) (call : Made) (e : Entry) → IsMade c maker list call → IsGoodMember c before → Agree maker before → maker.epoch_secret ≡ before.epoch_secret →
+    call.commit ≡ e.commit → names_in maker.kept list ≡ e.names → FollowedOther c before e m → m.epoch_secret ≡ call.pending.epoch_secret
 unfolding entry_of
 followed_secret c laws maker before m list call e is good agree secret commit names f =
     let g : IsGoodPending c maker call.pending = made_pends c maker list call is in
@@ -118,7 +118,7 @@ followed_secret c laws maker before m list call e is good agree secret commit na
     sym f.same.epoch ∙ reached_by c maker before m list call e.commit f.epoch f.after commit f.is claim
 
 reaches : (c : Crypto) → Lawful c → (creations : Creations) (w : World) → AllRecorded c creations w → (origin : Origin) (e : Entry) (es : List Entry) (one : HasOneSecret w.made (record { origin = origin; entries = es }) e) → OneSecret c creations w origin es →
-    (before m : Member) → IsReached c creations w.made origin es before → IsReachedOver c w.made (record { origin = origin; entries = es }) before e m → m.epoch ≡ one.secret
+    (before m : Member) → IsReached c creations w.made origin es before → IsReachedOver c w.made (record { origin = origin; entries = es }) before e m → m.epoch_secret ≡ one.secret
 reaches c laws creations w all origin e es one same before m past (inl f) =
     let here = one.here in
     let d : IsRecorded c creations w one.which = all here.place one.which here.is in
@@ -135,10 +135,10 @@ some_first : (f g : Member) (o : Option (Option Member)) → o ≡ Some (Some f)
 some_first f g o a b = cc
 
 -- where nothing followed yet, it is the creation's
-pub one_creation : (c : Crypto) (creations : Creations) (made : List CommitMade) (k : ℕ) (m n : Member) → IsReached c creations made (Creation k) [] m → IsReached c creations made (Creation k) [] n → m.epoch ≡ n.epoch
+pub one_creation : (c : Crypto) (creations : Creations) (made : List CommitMade) (k : ℕ) (m n : Member) → IsReached c creations made (Creation k) [] m → IsReached c creations made (Creation k) [] n → m.epoch_secret ≡ n.epoch_secret
 unfolding IsReached
 one_creation c creations made k m n a b =
-    sym a.0.same.epoch ∙ ap (λ (x : Member). x.epoch) (some_first a.0.first b.0.first (slice_get creations k) a.0.is b.0.is) ∙ b.0.same.epoch
+    sym a.0.same.epoch ∙ ap (λ (x : Member). x.epoch_secret) (some_first a.0.first b.0.first (slice_get creations k) a.0.is b.0.is) ∙ b.0.same.epoch
 
 began_secret : (c : Crypto) (creations : Creations) (w : World) (origin : Origin) → is_homemade_from w.made origin [] ≡ true → OneSecret c creations w origin []
 unfolding is_homemade_from

@@ -189,7 +189,7 @@ sent_fits : (c : Crypto) (m : Member) (list : List ProposalOrRef) (path : MadePa
     length (mls_message.spell (message.PublicMessage (sent_of c m list path change))) < 2 ^ 30 → mls_message.Fits (message.PublicMessage (sent_of c m list path change))
 unfolding sent_of
 sent_fits c m list path change good listed leaf lt =
-    message_fits (content_of c m list path change) (content_tag m.epoch (content_of c m list path change) m.public.context) (made_content_fits c m list path change good listed leaf) lt
+    message_fits (content_of c m list path change) (content_tag m.epoch_secret (content_of c m list path change) m.public.context) (made_content_fits c m list path change good listed leaf) lt
 
 pub made_fits : MadeFits
 unfolding decode_message made_of

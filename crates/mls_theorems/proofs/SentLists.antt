@@ -80,7 +80,7 @@ listed_short : (c : Crypto) (m : Member) (list : List ProposalOrRef) (path : Mad
 unfolding sent_of commit_of
 listed_short c m list path change le =
     let short : length (mls_message.spell (message.PublicMessage (sent_of c m list path change))) ≤ input_limit = subst (λ (b : List ℕ). length b ≤ input_limit) (message_is c m list path change) le in
-    list_short (commit_of list path) (said_short c m list path change (message_short (content_of c m list path change) (content_tag m.epoch (content_of c m list path change) m.public.context) (omega (arith, short))))
+    list_short (commit_of list path) (said_short c m list path change (message_short (content_of c m list path change) (content_tag m.epoch_secret (content_of c m list path change) m.public.context) (omega (arith, short))))
 
 pub lists_fit : MadeListsFit
 lists_fit c m list wants_path seed made fits h =

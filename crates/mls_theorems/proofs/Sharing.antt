@@ -102,7 +102,7 @@ agree_by m n e = record {
   interim = ap (λ (p : PublicState). p.interim) e;
 }
 
-secret_by : (m n : Member) → m.epoch ≡ n.epoch → AgreeSecret m n
+secret_by : (m n : Member) → m.epoch_secret ≡ n.epoch_secret → AgreeSecret m n
 secret_by m n e = record { epoch = e; nine = ap nine_secrets e }
 
 -- ---- a member that advances
@@ -172,7 +172,7 @@ module _ (c : Crypto) (laws : Lawful c) (maker : Member) (list : List ProposalOr
   after = with_pending maker made.pending
 
   unfoldable next : Member
-  next = with_epoch after made.pending.public made.pending.epoch made.pending.keys
+  next = with_epoch after made.pending.public made.pending.epoch_secret made.pending.keys
 
   after_good : IsGoodMember c after
   unfolding after
@@ -194,7 +194,7 @@ module _ (c : Crypto) (laws : Lawful c) (maker : Member) (list : List ProposalOr
   unfolding next with_epoch
   next_public = refl
 
-  next_epoch : next.epoch ≡ made.pending.epoch
+  next_epoch : next.epoch_secret ≡ made.pending.epoch_secret
   unfolding next with_epoch
   next_epoch = refl
 

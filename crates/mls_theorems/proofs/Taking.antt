@@ -40,7 +40,7 @@ unfolding step answer join_answer
 join_is c w n source e bytes j at b h = record { reply = rw (at, b, h) refl; seats = rw (at, b, h) refl }
 
 joins : (c : Crypto) (w : World) (n : ℕ) (source : Source) (e : Entrant) (bytes : List ℕ) (d f : CommitMade) (j : JoinedMember) → slice_get w.entrants n ≡ Some e → e.is_spent ≡ false → bytes_of w source ≡ Ok bytes → join_verdict c e.candidate bytes ≡ Ok j → commit_for_joiner w.made source e.candidate ≡ Some f →
-    j.member.epoch ≡ f.epoch → JoinsGroup c w n source f
+    j.member.epoch_secret ≡ f.epoch_secret → JoinsGroup c w n source f
 joins c w n source e bytes d f j at unspent b h is epoch =
     let v = join_is c w n source e bytes j (unspent_at w n e at unspent) b h in
     let t : Seat = record { member = j.member; journal = joiner_journal (commit_for_joiner w.made source e.candidate) j.info } in
@@ -90,7 +90,7 @@ joins_by_number c laws creations w g i n number bytes d e at welcome added =
     let one : f.which ≡ d = g.numbers f.place i number x.0 bytes f.which d f.stands at x.1 welcome in
     let to : JoinsTo c k bytes r.call = joins_by c laws creations w d k bytes r (g.candidates n e added.is) (record { number = number; is = welcome }) added.adds in
     let b : bytes_of w (Message number) ≡ Ok bytes = let h = r.number number bytes welcome in rw h refl in
-    let epoch : to.joined.member.epoch ≡ f.which.epoch = to.epoch ∙ sym r.epoch ∙ ap (λ (y : CommitMade). y.epoch) (sym one) in
+    let epoch : to.joined.member.epoch_secret ≡ f.which.epoch_secret = to.epoch ∙ sym r.epoch ∙ ap (λ (y : CommitMade). y.epoch_secret) (sym one) in
     subst (λ (y : CommitMade). JoinsGroup c w n (Message number) y) one (joins c w n (Message number) e bytes d f.which to.joined added.is added.unspent b to.is f.is epoch)
 
 -- ---- by its bytes

@@ -29,7 +29,8 @@ unfoldable pub signature_of : Crypto → Member → List ProposalOrRef → MadeP
 signature_of c m list path = content_signature c m.signing (said_of m list path) m.public.context
 
 unfoldable pub joiner_of : Member → MadePath → Change → List ℕ
-joiner_of m path change = joiner_secret (init_secret m.epoch) path.climb.secret (group_context.spell change.context)
+joiner_of m path change =
+    joiner_secret (init_secret m.epoch_secret) path.climb.secret (group_context.spell change.context)
 
 unfoldable pub epoch_of : Member → MadePath → Change → List ℕ
 epoch_of m path change = epoch_secret (joiner_of m path change) (group_context.spell change.context)
@@ -51,7 +52,7 @@ made_of c m list path change welcome = record {
   pending = record {
     message = message_of c m list path change;
     public = public_with change (tag_of m path change);
-    epoch = epoch_of m path change;
+    epoch_secret = epoch_of m path change;
     keys = with_keys m.keys path.climb.keys;
   };
 }

@@ -18,7 +18,7 @@ AllRecorded c creations w = (n : ℕ) (d : CommitMade) → slice_get w.made n �
 
 abbrev pub OneSecret : Crypto → Creations → World → Origin → List Entry → Type 0
 OneSecret c creations w origin es = (m n : Member) → IsReached c creations w.made origin es m →
-    IsReached c creations w.made origin es n → m.epoch ≡ n.epoch
+    IsReached c creations w.made origin es n → m.epoch_secret ≡ n.epoch_secret
 
 -- Two members that were reached along one homemade journal have one epoch secret. The proof goes along the journal and
 -- not along time: a maker may have stood at a journal later than who followed its commit.

@@ -29,7 +29,7 @@ pub record StandsAtJournal (c : Crypto) (creations : Creations) (origin : Origin
     (m : Member) : Type 0 where
   pub public : public_of c creations origin entries ≡ Ok m.public
   pub tagged : (tag : List ℕ) → last_tag origin entries ≡ Some tag →
-      confirmation_tag m.epoch m.public.context.confirmed_transcript_hash ≡ tag
+      confirmation_tag m.epoch_secret m.public.context.confirmed_transcript_hash ≡ tag
 
 -- members that stand at one journal agree: the public state is a function of the journal
 abbrev pub PublicAgreement : Type 0

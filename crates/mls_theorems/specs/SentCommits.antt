@@ -60,7 +60,7 @@ PathDid = (c : Crypto) (m : Member) (used : List Used) (e : Edits) (wants_path :
 unfoldable pub sent_of : Crypto → Member → List ProposalOrRef → MadePath → Change → PublicMessage
 sent_of c m list path change = record {
   content = content_of c m list path change;
-  membership_tag = content_tag m.epoch (content_of c m list path change) m.public.context;
+  membership_tag = content_tag m.epoch_secret (content_of c m list path change) m.public.context;
 }
 
 -- bytes are read as a message that has a spelling

@@ -94,7 +94,7 @@ stored_recorded ss ds before after js new j e d h b a is at =
 
 -- a record, as it is made
 abbrev pub making : ℕ → ℕ → List ℕ → List (List ℕ) → Option (ℕ × List ℕ) → Making
-making maker journal epoch adds welcome = record { maker = maker; journal = journal; epoch = epoch; adds = adds; welcome = welcome }
+making maker journal epoch adds welcome = record { maker = maker; journal = journal; epoch_secret = epoch; adds = adds; welcome = welcome }
 
 abbrev numbered : ℕ → Option (List ℕ) → Option (ℕ × List ℕ)
 numbered n o = option_map (λ (bytes : List ℕ). (n, bytes)) o
@@ -102,7 +102,7 @@ numbered n o = option_map (λ (bytes : List ℕ). (n, bytes)) o
 abbrev recorded_with : World → ℕ → Journal → List ℕ → List (List ℕ) → List ℕ → List (List ℕ) → List (List ℕ) → Option (ℕ × List ℕ) → World
 recorded_with w k j commit names epoch adds more welcome = record w {
   messages = w.messages ++ more;
-  made = w.made ++ (record { maker = k; journal = j; entry = record { commit = commit; names = names }; epoch = epoch; adds = adds; welcome = welcome } ∷ []);
+  made = w.made ++ (record { maker = k; journal = j; entry = record { commit = commit; names = names }; epoch_secret = epoch; adds = adds; welcome = welcome } ∷ []);
 }
 
 abbrev the_pair : Reply → World → Reply × World
@@ -135,19 +135,19 @@ world_is w es ss ms ds js new k at j commit seen names epoch adds more messages 
 
 pub recorded_is : {X : Type 0} (f : X → List ℕ) (w : World) (es : List Entrant) (ss : List Seated) (ms messages : List (List ℕ)) (ds before after : List Making) (js new : List Journal) (k at n : ℕ) (x y : Seated) (s : Seat) (p : Pending)
     (commit seen : List ℕ) (o : Option X) (names adds : List (List ℕ)) (epoch : List ℕ) (said : Option (ℕ × List ℕ)) (answered : Option ℕ)
-    → world_of es ss ms ds js ≡ w → AreStored ss ds js → y ≡ x → x ≡ get_or ss k x → k < length w.seats → slice_get w.seats k ≡ Some s → epoch ≡ p.epoch → n ≡ length ms
+    → world_of es ss ms ds js ≡ w → AreStored ss ds js → y ≡ x → x ≡ get_or ss k x → k < length w.seats → slice_get w.seats k ≡ Some s → epoch ≡ p.epoch_secret → n ≡ length ms
     → at ≡ length js → seen ≡ commit → new ≡ js ++ with_entry (journal_at js y.journal) (record { commit = seen; names = names }) ∷ []
     → said ≡ option_map (λ (v : X). (n + 1, f v)) o → before ≡ ds → after ≡ before ++ making k at epoch adds said ∷ []
     → messages ≡ ms ++ messages_with commit (option_map f o) → answered ≡ option_map (λ (bytes : List ℕ). n + 1) (option_map f o)
-    → record_commit w k s p.epoch (commit, option_map f o) names adds ≡ (reply.Commit n answered, world_of es ss messages after new)
+    → record_commit w k s p.epoch_secret (commit, option_map f o) names adds ≡ (reply.Commit n answered, world_of es ss messages after new)
 recorded_is f w es ss ms messages ds before after js new k at n x y s p commit seen o names adds epoch said answered same h is_x read lt found is count last sent journals numbers b a told replied =
     let j : Journal = journal_at js y.journal in
     let r : Option (List ℕ) = option_map f o in
     let seat : seat_of js y ≡ s = seat_is w es ss ms ds js k x y s same is_x read lt found in
     let here : n ≡ length w.messages = count ∙ ap (λ (v : World). length v.messages) same in
-    let e1 : record_commit w k s p.epoch (commit, r) names adds ≡ record_of w k s.journal p.epoch commit r names adds n = ap (λ (i : ℕ). record_of w k s.journal p.epoch commit r names adds i) (sym here) in
-    let e2 : record_of w k s.journal p.epoch commit r names adds n ≡ record_of w k j p.epoch commit r names adds n = ap (λ (z : Seat). record_of w k z.journal p.epoch commit r names adds n) (sym seat) in
-    let e3 : record_of w k j p.epoch commit r names adds n ≡ record_of w k j epoch commit r names adds n = ap (λ (z : List ℕ). record_of w k j z commit r names adds n) (sym is) in
+    let e1 : record_commit w k s p.epoch_secret (commit, r) names adds ≡ record_of w k s.journal p.epoch_secret commit r names adds n = ap (λ (i : ℕ). record_of w k s.journal p.epoch_secret commit r names adds i) (sym here) in
+    let e2 : record_of w k s.journal p.epoch_secret commit r names adds n ≡ record_of w k j p.epoch_secret commit r names adds n = ap (λ (z : Seat). record_of w k z.journal p.epoch_secret commit r names adds n) (sym seat) in
+    let e3 : record_of w k j p.epoch_secret commit r names adds n ≡ record_of w k j epoch commit r names adds n = ap (λ (z : List ℕ). record_of w k j z commit r names adds n) (sym is) in
     let made_is : after ≡ ds ++ making k at epoch adds said ∷ [] = a ∙ ap (λ (l : List Making). made_with l (making k at epoch adds said)) b in
     let e4 : recorded_with w k j commit names epoch adds (messages_with commit r) (numbered (n + 1) r) ≡ world_of es ss messages after new =
     world_is w es ss ms ds js new k at j commit seen names epoch adds (messages_with commit r) messages (numbered (n + 1) r) said after same h last sent (numbers ∙ fused f (n + 1) o) journals made_is told in
@@ -218,7 +218,7 @@ still_there c w mid k list path seed x lt h =
 pub whole_is : (c : Crypto) (w mid new : World) (k : ℕ) (items : List WorldItem) (path : Bool) (seed : List ℕ) (list : List ProposalOrRef) (x : List ℕ × Option (List ℕ)) (names adds : List (List ℕ)) (said : Reply)
     → k < length w.seats → items_of w items ≡ Ok list → commit_by c w k list path seed ≡ Ok (x, mid)
     → ((s : Seat) → slice_get w.seats k ≡ Some s → IsNamed s.member.kept list names adds)
-    → ((t : Seat) (p : Pending) → slice_get mid.seats k ≡ Some t → t.member.pending ≡ Some p → record_commit mid k t p.epoch x names adds ≡ (said, new))
+    → ((t : Seat) (p : Pending) → slice_get mid.seats k ≡ Some t → t.member.pending ≡ Some p → record_commit mid k t p.epoch_secret x names adds ≡ (said, new))
     → commit_answer c w k items path seed ≡ Ok (said, new)
 whole_is c w mid new k items path seed list x names adds said lt listed does named h =
     let s = there_of w.seats k lt in

@@ -30,7 +30,7 @@ abbrev the_seat : Seated → Journal → Seat
 the_seat s j = record { member = s.member; journal = j }
 
 abbrev the_made : Making → Journal → CommitMade
-the_made d j = record { maker = d.maker; journal = before j; entry = latest j; epoch = d.epoch; adds = d.adds; welcome = d.welcome }
+the_made d j = record { maker = d.maker; journal = before j; entry = latest j; epoch_secret = d.epoch_secret; adds = d.adds; welcome = d.welcome }
 
 -- ---- more journals behind those that are there
 

@@ -62,8 +62,8 @@ abbrev coded_made : Coded CommitMade
 coded_made =
     code_by (ℕ × (Journal × (Entry × (List ℕ × (List (List ℕ) × Option (ℕ × List ℕ))))))
     (coded× coded_ℕ (coded× coded_journal (coded× coded_entry (coded× coded_bytes (coded× (coded_list coded_bytes) (coded_option (coded× coded_ℕ coded_bytes)))))))
-    (λ d. (d.maker, (d.journal, (d.entry, (d.epoch, (d.adds, d.welcome))))))
-    (λ p. record { maker = p.0; journal = p.1.0; entry = p.1.1.0; epoch = p.1.1.1.0; adds = p.1.1.1.1.0; welcome = p.1.1.1.1.1 }) (λ _. refl)
+    (λ d. (d.maker, (d.journal, (d.entry, (d.epoch_secret, (d.adds, d.welcome))))))
+    (λ p. record { maker = p.0; journal = p.1.0; entry = p.1.1.0; epoch_secret = p.1.1.1.0; adds = p.1.1.1.1.0; welcome = p.1.1.1.1.1 }) (λ _. refl)
 
 abbrev pub coded_world : Coded World
 coded_world =

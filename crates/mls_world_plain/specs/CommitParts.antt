@@ -36,7 +36,7 @@ NamesList w k list named = (s : Seat) → slice_get w.seats k ≡ Some s → IsN
 abbrev pub RecordsCommit : World → World → ℕ → Made → Named → NewCommit → Type 0
 RecordsCommit old new k made named v =
     (s : Seat) (p : Pending) → slice_get old.seats k ≡ Some s → s.member.pending ≡ Some p
-    → record_commit old k s p.epoch (messages_of made) named.names.items named.adds.items ≡ (reply.Commit v.message v.welcome, new)
+    → record_commit old k s p.epoch_secret (messages_of made) named.names.items named.adds.items ≡ (reply.Commit v.message v.welcome, new)
 
 -- ---- what is pending
 
@@ -50,7 +50,7 @@ TellsPending w k answer = (s : Seat) → slice_get w.seats k ≡ Some s → answ
 
 -- the epoch secret that the pending commit of member k leads to, where it has one
 abbrev pub IsPendingEpoch : World → ℕ → List ℕ → Type 0
-IsPendingEpoch w k epoch = (s : Seat) (p : Pending) → slice_get w.seats k ≡ Some s → s.member.pending ≡ Some p → epoch ≡ p.epoch
+IsPendingEpoch w k epoch = (s : Seat) (p : Pending) → slice_get w.seats k ≡ Some s → s.member.pending ≡ Some p → epoch ≡ p.epoch_secret
 
 -- member k forgets its pending commit
 abbrev pub ForgetsPending : World → World → ℕ → Type 0

@@ -48,7 +48,7 @@ pub record Seated : Type 0 where
 pub record Making : Type 0 where
   pub maker : ℕ
   pub journal : ℕ
-  pub epoch : List ℕ
+  pub epoch_secret : List ℕ
   pub adds : List (List ℕ)
   pub welcome : Option (ℕ × List ℕ)
 
@@ -60,7 +60,7 @@ commit_made_of js d = record {
   maker = d.maker;
   journal = before (journal_at js d.journal);
   entry = latest (journal_at js d.journal);
-  epoch = d.epoch;
+  epoch_secret = d.epoch_secret;
   adds = d.adds;
   welcome = d.welcome;
 }
