@@ -76,7 +76,7 @@ pub fn key_package<S: Suite>(alloc: Global, offered: &KeyPackage) -> Result<(), 
 /// The checks of a leaf that was made for an update or a commit, and of the leaf that it replaces (RFC 9420, 7.3). The
 /// first that fails is answered: the leaf's source, its signature, its capabilities, its identity, its key.
 #[tactic(auto, unfolding(crate::specs::Checks::replaced_checks))]
-pub fn replaced<S: Suite>(
+pub fn check_replacement<S: Suite>(
     alloc: Global,
     new: &LeafNode,
     old: &LeafNode,

@@ -1,4 +1,4 @@
-use mls_checks::{CheckError, Source, key_package, replaced};
+use mls_checks::{CheckError, Source, check_replacement, key_package};
 use mls_leaf::{Codec, KeyPackage, LeafNode};
 use mls_suite::Glass;
 use std::alloc::Global;
@@ -159,7 +159,7 @@ fn put_in(alloc: Global, new: &[u8], old: &[u8], source: Source, index: u32) -> 
     }
     let new = LeafNode::decode(alloc, new)?;
     let old = LeafNode::decode(alloc, old)?;
-    Ok(number_of(replaced::<Glass>(alloc, &new, &old, source, b"g", index))?)
+    Ok(number_of(check_replacement::<Glass>(alloc, &new, &old, source, b"g", index))?)
 }
 
 #[test]
