@@ -6,11 +6,8 @@ use Rattle.mls_leaf.specs.declared.proposal.Proposal.{Proposal}
 use Rattle.mls_treekem_model.specs.Keys.{PrivateKeys}
 use Rattle.mls_model.specs.PublicState.{PublicState}
 use Rattle.mls_model.specs.Member.{KeptProposal, Pending, Member}
-use Rattle.mls_public_group.specs.Codes.{coded_proposal}
+use Rattle.mls_public_group.specs.Codes.{coded_bytes, coded_proposal}
 use Rattle.mls_public_group.specs.PublicCodes.{coded_public}
-
-abbrev coded_bytes : Coded (List ℕ)
-coded_bytes = coded_list coded_ℕ
 
 abbrev pub coded_keys : Coded PrivateKeys
 coded_keys =

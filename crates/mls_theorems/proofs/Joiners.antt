@@ -37,7 +37,6 @@ use Rattle.mls_theorems.proofs.Staying.{edits_follow_committer}
 use Rattle.mls_theorems.specs.CommitLaws.{HasLeaves}
 use Rattle.mls_theorems.proofs.Clients.{clients_apart}
 use Rattle.mls_theorems.proofs.Info.{info_fits}
-use Rattle.mls_theorems.specs.JoinChecks.{info_of}
 use Rattle.mls_theorems.proofs.JoinChecks.{tree_is_taken, signer_passes, joins_at}
 use Rattle.mls_theorems.proofs.Joins.{info_made, secret_made, secrets_made, Joining, joining, next_of_made, leaves_of_made, sent_32}
 use Rattle.mls_theorems.specs.CommitCalls.{commit_of, said_of, signature_of, joiner_of, epoch_of, tag_of, made_of, Makes}
@@ -93,7 +92,7 @@ module _ (c : Crypto) (laws : Lawful c) (m : Member) (list : List ProposalOrRef)
 
   -- 70 to 75: the candidate opens it
   fits : group_info.Fits (info_made c m s.path s.change)
-  unfolding info_of signed_info unsigned_info public_with
+  unfolding signed_info unsigned_info public_with
   fits =
       let low = within_is _ j.sent.info_short in
       info_fits s.change.context (to_nodes s.change.tree) (tag_of m s.path s.change) m.keys.leaf _ next.context (sent_nodes_fit s.change.tree next.nodes) (leaf_short c m is.good) (omega arith)
@@ -107,7 +106,7 @@ module _ (c : Crypto) (laws : Lawful c) (m : Member) (list : List ProposalOrRef)
   }
 
   suite : (info_made c m s.path s.change).group_context.cipher_suite ≡ c.number
-  unfolding info_of signed_info unsigned_info public_with
+  unfolding signed_info unsigned_info public_with
   suite = next.suite
 
   opens : opened_welcome c k welcome ≡ Ok opened

@@ -16,12 +16,8 @@ use Rattle.mls_model.specs.Commit.{Change, public_with}
 use Rattle.mls_model.specs.Join.{JoinedMember, joined_tree, signer_checks, place_of, joined_keys, member_of}
 use Rattle.mls_model.specs.OpenedWelcome.{Opened}
 use Rattle.mls_model.specs.PublicState.{PublicState}
-use Rattle.mls_model.specs.Welcome.{unsigned_info, signed_info}
+use Rattle.mls_model.specs.Welcome.{info_of}
 use Rattle.mls_theorems.specs.CommitLaws.{HasGood}
-
--- the GroupInfo of a public state
-unfoldable pub info_of : Crypto → List ℕ → PublicState → List ℕ → ℕ → GroupInfo
-info_of c signing p tag signer = signed_info c signing (unsigned_info p tag signer)
 
 -- ---- the tree
 

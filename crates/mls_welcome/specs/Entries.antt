@@ -11,7 +11,7 @@ use Rattle.mls_suite.specs.Crypto.{Crypto}
 use Rattle.mls_suite.specs.Labels.{sign_with_label}
 use Rattle.mls_treekem_model.specs.Seeds.{seal_seed}
 use Rattle.mls_model.specs.PublicState.{PublicState}
-use Rattle.mls_model.specs.Welcome.{secrets_with, entry_for, entries_for, unsigned_info, signed_info, welcome_message}
+use Rattle.mls_model.specs.Welcome.{secrets_with, entry_for, entries_for, signed_info, info_of, welcome_message}
 use Rattle.mls_public_group.specs.MessageLimit.{limited_text}
 use Rattle.mls_welcome.specs.Faults.{number_of, GivesBytes}
 use Rattle.mls_welcome.specs.Joiners.{package_and_leaf_of, AreSecretsOf}
@@ -21,10 +21,6 @@ use Rattle.mls_welcome.specs.declared.error.WelcomeError.{WelcomeError}
 use Rattle.mls_welcome.specs.declared.welcome_message.Joiner.{Joiner}
 
 -- ---- the GroupInfo
-
--- the GroupInfo of a group, signed by the member at a leaf (RFC 9420, 12.4.3)
-abbrev pub info_of : Crypto → List ℕ → PublicState → List ℕ → ℕ → GroupInfo
-info_of c signing p tag signer = signed_info c signing (unsigned_info p tag signer)
 
 -- the signature of a GroupInfo (RFC 9420, 12.4.3)
 abbrev pub info_signature : Crypto → List ℕ → GroupInfo → List ℕ

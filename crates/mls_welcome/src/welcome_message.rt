@@ -3,7 +3,8 @@
 ghost use Rattle.std.specs.Prelude.{◌≡◌, ◌<◌, ◌^◌, ◌+◌, length};
 ghost use Rattle.mls_welcome.specs.Joiners.{AreShortJoiners};
 ghost use Rattle.mls_welcome.specs.WelcomeMessage.{welcome_of};
-ghost use Rattle.mls_welcome.specs.Entries.{MakesWelcome, RefusesLong, SealsMessage, info_of};
+ghost use Rattle.mls_welcome.specs.Entries.{MakesWelcome, RefusesLong, SealsMessage};
+ghost use Rattle.mls_model.specs.Welcome.{info_of};
 
 use crate::entries::{Sealer, have_fit_keys};
 use crate::error::WelcomeError;

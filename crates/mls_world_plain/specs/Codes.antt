@@ -4,7 +4,7 @@ use Rattle.std.proofs.Common.{refl}
 use Rattle.std.specs.Coded.{Coded, code_by, coded×, coded⊎, coded_ℕ, coded_bool, coded_list, coded_option}
 use mathlib.Core.Logic.{inl, inr}
 use Rattle.mls_leaf.specs.declared.key_package.KeyPackage.{KeyPackage}
-use Rattle.mls_public_group.specs.Codes.{coded_package}
+use Rattle.mls_public_group.specs.Codes.{coded_bytes, coded_package}
 use Rattle.mls_member.specs.Codes.{coded_member}
 use Rattle.mls_model.specs.declared.origin.Origin.{Origin}
 use Rattle.mls_model.specs.declared.origin.Origin.TheVariants as from
@@ -13,9 +13,6 @@ use Rattle.mls_model.specs.Member.{Member}
 use Rattle.mls_model.specs.Journal.{Entry, Journal, CommitMade}
 use Rattle.mls_model.specs.World.{Entrant, Seat, World}
 use Rattle.mls_world_plain.specs.StoredWorld.{Seated}
-
-abbrev coded_bytes : Coded (List ℕ)
-coded_bytes = coded_list coded_ℕ
 
 -- ---- journals
 
