@@ -39,7 +39,7 @@ impl Entry {
 
 /// How a journal begins, or goes on from one that stands before it in the store.
 #[derive(Drop)]
-pub(crate) enum Step {
+pub(crate) enum JournalStep {
     Begun(Origin),
     Followed { before: usize, entry: Entry },
 }
