@@ -36,4 +36,5 @@ Renews c signing group i old source seed result =
 
 -- the KeyPackage that a candidate of an identity and a seed offers (RFC 9420, 10)
 abbrev pub offered_package : Crypto → List ℕ → List ℕ → KeyPackage
-offered_package c identity seed = signed_package c (sign_seed seed) (unsigned_package c identity seed)
+offered_package c identity seed =
+    signed_package c (sign_seed seed) (unsigned_package c identity seed)

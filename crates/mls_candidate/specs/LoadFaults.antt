@@ -33,4 +33,5 @@ candidate_by p = record { offered = p.offered; init = p.init; leaf = p.leaf; sig
 
 -- faults of decoding are answered whatever memory there is
 abbrev pub RefusesUndecoded : {A : Type 0} → List ℕ → Result A CandidateLoadError → Type 0
-RefusesUndecoded bytes result = RefusesOutright number_of (whole saved_candidate input_limit bytes) result
+RefusesUndecoded bytes result =
+    RefusesOutright number_of (whole saved_candidate input_limit bytes) result

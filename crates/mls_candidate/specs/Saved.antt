@@ -18,7 +18,8 @@ use Rattle.mls_model.specs.Messages.{require_within_limit}
 
 -- what is saved of a candidate
 unfoldable pub saved_parts : Candidate → SavedCandidate
-saved_parts k = record { key_package = k.offered; init = k.init; leaf = k.leaf; signing = k.signing }
+saved_parts k =
+    record { key_package = k.offered; init = k.init; leaf = k.leaf; signing = k.signing }
 
 -- the bytes that a candidate is saved as
 abbrev pub saved_bytes : Candidate → List ℕ
@@ -84,4 +85,6 @@ GoodIsLoaded = (c : Crypto) (k : Candidate) → IsGoodCandidate c k → HasSecre
 
 -- what is loaded is good
 abbrev pub LoadedIsGood : Type 0
-LoadedIsGood = (c : Crypto) (bytes : List ℕ) (k : Candidate) → key_package.Fits k.offered → load_candidate c bytes ≡ Ok k → IsGoodCandidate c k
+LoadedIsGood =
+    (c : Crypto) (bytes : List ℕ) (k : Candidate) → key_package.Fits k.offered →
+    load_candidate c bytes ≡ Ok k → IsGoodCandidate c k

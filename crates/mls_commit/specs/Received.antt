@@ -27,8 +27,10 @@ abbrev pub KeepsOwnTree : Term → Received → Type 0
 KeepsOwnTree t r = r.on_own ≡ true → r.change.edits.tree ≡ t
 
 -- its change has these extensions, these edits, and the tree that they lead to with the path merged
-abbrev pub HasChange : PublicState → List Extension → Edits → NextTree → List ℕ → List ℕ → Received → Type 0
-HasChange p list e next said signature r = r.change ≡ change_of p list e (next_term e.tree next) said signature
+abbrev pub HasChange : PublicState → List Extension → Edits → NextTree → List ℕ → List ℕ →
+    Received → Type 0
+HasChange p list e next said signature r =
+    r.change ≡ change_of p list e (next_term e.tree next) said signature
 
 -- The call answers the change that a commit makes whose FramedContent is spelled so, or refuses with the number of the
 -- first check that fails, memory aside (RFC 9420, 12.4.2).
@@ -36,7 +38,8 @@ abbrev pub Changes : Crypto → PublicState → ℕ → List Used → Commit →
     Result Received CommitError → Type 0
 Changes c p committer used commit said signature result =
     (content : FramedContent) → framed_content.spell content ≡ said →
-    Answers (λ r. r.change) number_of (change_of_commit c p committer used commit content signature) result
+    Answers (λ r. r.change) number_of (change_of_commit c p committer used commit content signature)
+    result
 
 -- the leaves of both trees are below each bound, from that of a group's leaves on, that the proposals and the path's
 -- leaf are below

@@ -17,7 +17,15 @@ use Rattle.mls_join.specs.declared.opening.Opened.{Opened}
 -- the member that a candidate becomes, with its signature key, and with nothing kept or pending yet
 abbrev pub joined_by : Candidate → Entrance → JoinedMember
 joined_by k e = record {
-  member = record { gone = false; public = e.group; epoch_secret = e.epoch; keys = e.keys; signing = k.signing; kept = []; pending = None };
+  member = record {
+    gone = false;
+    public = e.group;
+    epoch_secret = e.epoch;
+    keys = e.keys;
+    signing = k.signing;
+    kept = [];
+    pending = None;
+  };
   info = e.group_info.items;
 }
 
@@ -36,4 +44,5 @@ Joins k defined result = Answers (joined_by k) number_of defined result
 -- The call makes each candidate the member with these keys in this tree, or refuses with the number of what fails, memory
 -- aside.
 abbrev pub EntersGroup : Opened → Term → PrivateKeys → Result Entrance JoinError → Type 0
-EntersGroup opened t keys result = (k : Candidate) → Joins k (enter_group k (opened_by opened) t keys) result
+EntersGroup opened t keys result =
+    (k : Candidate) → Joins k (enter_group k (opened_by opened) t keys) result

@@ -21,7 +21,8 @@ read_welcome bytes = decode_message bytes >>= λ outer. require_some 70 (welcome
 
 -- the Welcome of a suite's number that the bytes are: decoding, 70, 71 (RFC 9420, 12.4.3.1)
 unfoldable pub read_welcome_of_suite : ℕ → List ℕ → Result Welcome ℕ
-read_welcome_of_suite number bytes = read_welcome bytes >>= λ w. require 71 (w.cipher_suite == number) >> Ok w
+read_welcome_of_suite number bytes =
+    read_welcome bytes >>= λ w. require 71 (w.cipher_suite == number) >> Ok w
 
 -- a view shows the Welcome that all of the bytes are
 pub record IsShownIn (bytes : List ℕ) (view : WelcomeView) : Type 0 where
@@ -49,6 +50,8 @@ is_at leaf (Some x) = is_same_leaf x leaf
 
 -- The call answers a new member's keys: with a path secret those that it gives, else its leaf's alone; or it refuses with
 -- the number of what fails, memory aside.
-abbrev pub GivesKeys : Crypto → Term → ℕ → ℕ → List ℕ → Option (List ℕ) → Result PrivateKeys JoinError → Type 0
+abbrev pub GivesKeys : Crypto → Term → ℕ → ℕ → List ℕ → Option (List ℕ) →
+    Result PrivateKeys JoinError → Type 0
 GivesKeys c t signer place own path_secret result =
-    Gives (joined_keys c t signer (record { leaf = place; own = own; above = [] }) path_secret) result
+    Gives (joined_keys c t signer (record { leaf = place; own = own; above = [] }) path_secret)
+    result

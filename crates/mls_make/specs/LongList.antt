@@ -36,7 +36,8 @@ IsRefusalPast (Err k) n = n ≡ k
 
 -- The refusal is that of the speaker's path, whatever extensions the path is made for, and 6 where the path is made, memory
 -- aside.
-abbrev pub RefusesLongList : Crypto → Speaker → PrivateKeys → Edits → List Used → Bool → List ℕ → MakeError → Type 0
+abbrev pub RefusesLongList : Crypto → Speaker → PrivateKeys → Edits → List Used → Bool → List ℕ →
+    MakeError → Type 0
 RefusesLongList c s keys e used wants seed error =
     (m : Member) → Speaks m s → m.keys ≡ keys → number_of error ≢ 1 → (carried : List Extension) →
     IsRefusalPast (path_with c m carried e used wants seed) (number_of error)

@@ -55,7 +55,8 @@ says_handshake (view_of.Commit proposals path) = true
 -- the leaf of a message's sender, where it passes 42 to 45, and 46 the membership tag of the message (RFC 9420, 6.2)
 abbrev pub sender_of : Member → PublicMessage → Result LeafNode ℕ
 sender_of m v = do
-  leaf ← sender_at m v.content.group_id v.content.epoch (sender_leaf v.content.sender) (is_handshake v.content.body)
+  leaf ← sender_at m v.content.group_id v.content.epoch (sender_leaf v.content.sender)
+      (is_handshake v.content.body)
   require 46 (bytes_eq v.membership_tag (content_tag m.epoch_secret v.content m.public.context))
   Ok leaf
 
@@ -89,7 +90,8 @@ abbrev pub removes_leaf : ℕ → Used → Bool
 removes_leaf leaf u = is_leaf leaf (remove_in u.proposal)
 
 -- what a commit makes of the public state, and whether it removes the member (RFC 9420, 12.4.2)
-unfoldable pub check_commit : Crypto → Member → ℕ → Commit → FramedContent → List ℕ → Result (Change × Bool) ℕ
+unfoldable pub check_commit : Crypto → Member → ℕ → Commit → FramedContent → List ℕ →
+    Result (Change × Bool) ℕ
 check_commit c m committer commit said signature = do
   used ← find_proposals m.kept committer commit.proposals
   change ← change_of_commit c m.public committer used commit said signature
@@ -100,14 +102,17 @@ abbrev pub edited_keys : Member → Commit → Change → PrivateKeys
 edited_keys m commit change = keys_after_edits m commit.proposals change.edits.tree
 
 -- the member after a commit whose change is known (RFC 9420, 12.4.2)
-unfoldable pub after_change : Crypto → Member → ℕ → Commit → List ℕ → Change × Bool → Result (Effect × Member) ℕ
+unfoldable pub after_change : Crypto → Member → ℕ → Commit → List ℕ → Change × Bool →
+    Result (Effect × Member) ℕ
 after_change c m committer commit tag (change, removes) =
     if removes then Ok (Removed, after_removal m)
     else (open_path_secret c m committer change (edited_keys m commit change) commit.path >>= λ climb. enter_epoch m change climb tag)
 
 -- the member after a commit that isn't in the last epoch
-abbrev pub follow_commit : Crypto → Member → ℕ → Commit → FramedContent → List ℕ → List ℕ → Result (Effect × Member) ℕ
-follow_commit c m committer commit said signature tag = check_commit c m committer commit said signature >>= after_change c m committer commit tag
+abbrev pub follow_commit : Crypto → Member → ℕ → Commit → FramedContent → List ℕ → List ℕ →
+    Result (Effect × Member) ℕ
+follow_commit c m committer commit said signature tag =
+    check_commit c m committer commit said signature >>= after_change c m committer commit tag
 
 -- ---- lengths
 
@@ -115,7 +120,8 @@ follow_commit c m committer commit said signature tag = check_commit c m committ
 abbrev pub IsShortContent : ContentView → Type 0
 IsShortContent (view_of.Application text) = Unit {0}
 IsShortContent (view_of.Proposal part) = length part ≤ input_limit
-IsShortContent (view_of.Commit proposals path) = (length proposals ≤ input_limit) × (length path ≤ input_limit)
+IsShortContent (view_of.Commit proposals path) =
+    (length proposals ≤ input_limit) × (length path ≤ input_limit)
 
 -- a message is shown
 unfoldable pub IsShown : PublicMessageView → Type 0
@@ -138,7 +144,8 @@ IsListedBelow n (listed.Reference reference) = Unit {0}
 -- where a group's extensions encode to fewer than 2^27 bytes, those that it carries after these proposals do
 abbrev pub KeepExtensionsShort : List Used → Type 0
 KeepExtensionsShort used =
-    (old : List Extension) → IsBelow (2 ^ 27) group_extensions old → IsBelow (2 ^ 27) group_extensions (extended old used)
+    (old : List Extension) → IsBelow (2 ^ 27) group_extensions old →
+    IsBelow (2 ^ 27) group_extensions (extended old used)
 
 -- each proposal in full, and the path's leaf, encode to fewer than n bytes
 pub record IsShortCommit (n : ℕ) (commit : Commit) : Type 0 where

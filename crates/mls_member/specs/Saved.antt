@@ -37,11 +37,19 @@ standing_of true = Removed
 
 -- a kept proposal as it is saved
 abbrev pub saved_proposal_of : KeptProposal → SavedProposal
-saved_proposal_of k = record { reference = k.reference; message = k.message; proposal = k.proposal; sender = k.sender; own_key = k.own_key }
+saved_proposal_of k =
+    record {
+      reference = k.reference;
+      message = k.message;
+      proposal = k.proposal;
+      sender = k.sender;
+      own_key = k.own_key;
+    }
 
 -- a pending commit as it is saved
 abbrev pub saved_pending_of : Pending → SavedPending
-saved_pending_of p = record { message = p.message; state = saved_state_of p.public p.epoch_secret p.keys }
+saved_pending_of p =
+    record { message = p.message; state = saved_state_of p.public p.epoch_secret p.keys }
 
 -- a member as it is saved
 unfoldable pub saved_of : Member → SavedMember
@@ -125,7 +133,8 @@ load c bytes = whole saved_member input_limit bytes >>= load_member c
 
 -- faults of decoding are answered whatever memory there is
 abbrev pub RefusesUndecoded : {A : Type 0} → List ℕ → Result A LoadError → Type 0
-RefusesUndecoded bytes result = RefusesOutright number_of (whole saved_member input_limit bytes) result
+RefusesUndecoded bytes result =
+    RefusesOutright number_of (whole saved_member input_limit bytes) result
 
 -- ---- what was saved is loaded
 
@@ -148,7 +157,8 @@ LoadsAsWas c m bytes = IsGoodMember c m → load c bytes ≡ Ok m
 
 -- each kept proposal is spelled in fewer than n bytes
 abbrev pub AreSavedBelow : ℕ → List SavedProposal → Type 0
-AreSavedBelow n kept = AllByRecursion (λ (k : SavedProposal). IsBelow n proposal_format k.proposal) kept
+AreSavedBelow n kept =
+    AllByRecursion (λ (k : SavedProposal). IsBelow n proposal_format k.proposal) kept
 
 -- a saved pending commit is spelled in fewer than n bytes, if there is one
 abbrev pub IsBelowIfPending : ℕ → Option SavedPending → Type 0

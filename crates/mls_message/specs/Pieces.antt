@@ -38,9 +38,11 @@ IsTooLarge v e = number_of e ≢ 1 → (m : Member) → limited_text (message_by
 -- There is room for so many bytes more behind a text, or the call refuses with 6. It takes no memory.
 abbrev pub HasRoom : {A : Type 0} → List ℕ → ℕ → Result A LeafError → Type 0
 HasRoom text more result =
-    MatchResult result (λ _. length text + more ≤ input_limit) (λ e. (number_of e ≡ 6) × (input_limit < length text + more))
+    MatchResult result (λ _. length text + more ≤ input_limit)
+    (λ e. (number_of e ≡ 6) × (input_limit < length text + more))
 
 -- The call answers the one spelling of a value, which is no larger than a message may be, or refuses it.
 abbrev pub SpellsWithin : {V : Type 0} → Format V → V → Result (Vec ℕ) LeafError → Type 0
 SpellsWithin format v result =
-    MatchResult result (λ b. Spells format v b.items × (length b.items ≤ input_limit)) (IsLong (format.spell v))
+    MatchResult result (λ b. Spells format v b.items × (length b.items ≤ input_limit))
+    (IsLong (format.spell v))

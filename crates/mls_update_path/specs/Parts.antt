@@ -69,14 +69,17 @@ leaf_from c signing group i old hash seed =
 
 -- the checks that the committer's new leaf passes (RFC 9420, 7.3)
 abbrev pub leaf_checks : Crypto → List ℕ → List ℕ → ℕ → LeafNode → List ℕ → List ℕ → Result Passed ℕ
-leaf_checks c signing group i old hash seed = replaced_checks c (leaf_from c signing group i old hash seed) old replaced_for.Commit group i
+leaf_checks c signing group i old hash seed =
+    replaced_checks c (leaf_from c signing group i old hash seed) old replaced_for.Commit group i
 
 -- its new leaf, whose parent hash is that of these keys (RFC 9420, 7.2 and 7.9)
 unfoldable pub leaf_with : Crypto → List ℕ → List ℕ → ℕ → Term → LeafNode → List ℕ → LeafNode
-leaf_with c signing group i t old seed = leaf_from c signing group i old (path_parent_hash t i (path_public_keys c i t seed)) seed
+leaf_with c signing group i t old seed =
+    leaf_from c signing group i old (path_parent_hash t i (path_public_keys c i t seed)) seed
 
 -- its new leaf and the tree with its path, where both pass their checks: 50 to 54, 25, 24
-unfoldable pub leaf_and_tree_of : Crypto → PublicState → List ℕ → ℕ → Term → List ℕ → Result (LeafNode × Term) ℕ
+unfoldable pub leaf_and_tree_of : Crypto → PublicState → List ℕ → ℕ → Term → List ℕ →
+    Result (LeafNode × Term) ℕ
 leaf_and_tree_of c p signing i t seed = do
   old ← member_at p.tree i
   let leaf = leaf_with c signing p.context.group_id i t old seed
@@ -85,17 +88,20 @@ leaf_and_tree_of c p signing i t seed = do
   Ok (leaf, tree)
 
 -- the path, whose secrets are sealed under the context with these extensions and that tree (RFC 9420, 12.4.1)
-unfoldable pub path_of : Crypto → PublicState → List ℕ → ℕ → List Extension → Edits → List ℕ → Result MadePath ℕ
+unfoldable pub path_of : Crypto → PublicState → List ℕ → ℕ → List Extension → Edits → List ℕ →
+    Result MadePath ℕ
 path_of c p signing i list e seed = do
   x ← leaf_and_tree_of c p signing i e.tree seed
-  nodes ← sealed_path c (provisional_bytes p.context list x.1) e.added (seal_seed seed) e.tree i (path_seed seed)
+  nodes ← sealed_path c (provisional_bytes p.context list x.1) e.added (seal_seed seed) e.tree i
+      (path_seed seed)
   Ok (record {
     path = Some (record { leaf_node = x.0; nodes = nodes });
     climb = climb_make c (way 0 e.tree i) (path_seed seed) (leaf_key_of c seed);
   })
 
 -- The leaf that a call answers is the committer's new one with a parent hash.
-abbrev pub MakesLeaf : {E : Type 0} → Crypto → List ℕ → PublicState → ℕ → LeafNode → List ℕ → List ℕ →
+abbrev pub MakesLeaf : {E : Type 0} → Crypto → List ℕ → PublicState → ℕ → LeafNode → List ℕ →
+    List ℕ →
     Result LeafNode E → Type 0
 MakesLeaf c signing p i old hash seed result =
     IfOk result (λ leaf. leaf ≡ leaf_from c signing p.context.group_id i old hash seed)
@@ -105,14 +111,18 @@ MakesLeaf c signing p i old hash seed result =
 abbrev pub ChecksLeaf : Crypto → List ℕ → PublicState → ℕ → LeafNode → List ℕ → List ℕ →
     Result LeafNode PathError → Type 0
 ChecksLeaf c signing p i old hash seed result =
-    Answers (λ _. passed) number_of (leaf_checks c signing p.context.group_id i old hash seed) result
+    Answers (λ _. passed) number_of (leaf_checks c signing p.context.group_id i old hash seed)
+    result
 
 -- The call merges a leaf and keys into a tree, or refuses with the number of what fails, memory aside (RFC 9420, 7.5).
 abbrev pub MergesPath : Term → ℕ → LeafNode → List (List ℕ) → Result Merged PathError → Type 0
-MergesPath t i leaf keys result = Answers (λ x. term x.tree) number_of (merge_answer t i leaf keys) result
+MergesPath t i leaf keys result =
+    Answers (λ x. term x.tree) number_of (merge_answer t i leaf keys) result
 
 -- The call answers the committer's new leaf and the tree with its path, or refuses with the number of the first check
 -- that fails, memory aside.
-abbrev pub MergesNewPath : Crypto → PublicState → List ℕ → ℕ → Tree → List ℕ → Result Merged PathError → Type 0
+abbrev pub MergesNewPath : Crypto → PublicState → List ℕ → ℕ → Tree → List ℕ →
+    Result Merged PathError → Type 0
 MergesNewPath c p signing i edited seed result =
-    Answers (λ x. (x.leaf, term x.tree)) number_of (leaf_and_tree_of c p signing i (term edited) seed) result
+    Answers (λ x. (x.leaf, term x.tree)) number_of
+    (leaf_and_tree_of c p signing i (term edited) seed) result

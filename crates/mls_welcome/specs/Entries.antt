@@ -24,22 +24,27 @@ use Rattle.mls_welcome.specs.declared.welcome_message.Joiner.{Joiner}
 
 -- the signature of a GroupInfo (RFC 9420, 12.4.3)
 abbrev pub info_signature : Crypto → List ℕ → GroupInfo → List ℕ
-info_signature c signing info = sign_with_label c signing (codes "GroupInfoTBS") (group_info_tbs info)
+info_signature c signing info =
+    sign_with_label c signing (codes "GroupInfoTBS") (group_info_tbs info)
 
 -- the signed GroupInfo is refused with this number, memory aside
 abbrev pub IsInfoRefused : Crypto → List ℕ → GroupInfo → WelcomeError → Type 0
 IsInfoRefused c signing info e =
-    number_of e ≢ 1 → limited_text (group_info.spell (signed_info c signing info)) ≡ Err (number_of e)
+    number_of e ≢ 1 →
+    limited_text (group_info.spell (signed_info c signing info)) ≡ Err (number_of e)
 
 -- The call answers the spelling of a group's signed GroupInfo, or refuses with 6 where it is too large, memory aside.
-abbrev pub SignsInfo : Crypto → List ℕ → PublicState → List ℕ → ℕ → Result (Vec ℕ) WelcomeError → Type 0
-SignsInfo c signing p tag signer result = GivesBytes (limited_text (group_info.spell (info_of c signing p tag signer))) result
+abbrev pub SignsInfo : Crypto → List ℕ → PublicState → List ℕ → ℕ → Result (Vec ℕ) WelcomeError →
+    Type 0
+SignsInfo c signing p tag signer result =
+    GivesBytes (limited_text (group_info.spell (info_of c signing p tag signer))) result
 
 -- ---- the entries
 
 -- these are a joiner's GroupSecrets, without pre-shared keys
 abbrev pub IsSecretsOf : List ℕ → Option (List ℕ) → GroupSecrets → Type 0
-IsSecretsOf joiner path secrets = secrets ≡ record { joiner_secret = joiner; path_secret = path; psks = [] }
+IsSecretsOf joiner path secrets =
+    secrets ≡ record { joiner_secret = joiner; path_secret = path; psks = [] }
 
 -- The call answers a joiner's GroupSecrets, spelled, unless memory was refused.
 abbrev pub SpellsSecrets : List ℕ → Option (List ℕ) → Result (Vec ℕ) WelcomeError → Type 0
@@ -48,12 +53,14 @@ SpellsSecrets joiner path result = GivesBytes (Ok (secrets_with joiner path)) re
 -- the entry of a joiner, under seal number n
 abbrev pub entry_of : Crypto → List ℕ → Sealer → Joiner → ℕ → Result EncryptedGroupSecrets ℕ
 entry_of c encrypted_info sealer joiner n =
-    entry_for c encrypted_info joiner.key_package.now (secrets_with sealer.joiner_secret.now (option_copied joiner.path_secret))
+    entry_for c encrypted_info joiner.key_package.now
+    (secrets_with sealer.joiner_secret.now (option_copied joiner.path_secret))
     (seal_seed sealer.seed.now n)
 
 -- The call answers the entries of the joiners, whose seals are numbered from `first` on, or refuses with the number of the
 -- first that fails, memory aside.
-abbrev pub SealsEntries : Crypto → List ℕ → Sealer → List Joiner → ℕ → Result (Vec EncryptedGroupSecrets) WelcomeError → Type 0
+abbrev pub SealsEntries : Crypto → List ℕ → Sealer → List Joiner → ℕ →
+    Result (Vec EncryptedGroupSecrets) WelcomeError → Type 0
 SealsEntries c encrypted_info sealer joiners first result =
     (secrets : ℕ → List ℕ) → AreSecretsOf sealer.joiner_secret.now secrets joiners →
     Answers (λ v. v.items) number_of
@@ -65,17 +72,20 @@ SealsEntries c encrypted_info sealer joiners first result =
 abbrev pub RefusesLong : Crypto → List Joiner → WelcomeError → Type 0
 RefusesLong c joiners e =
     (encrypted_info : List ℕ) (secrets rnd : ℕ → List ℕ) (n : ℕ) → 2 ^ 30 ≤ length encrypted_info →
-    message_with c encrypted_info secrets rnd n (map package_and_leaf_of joiners) ≡ Err (number_of e)
+    message_with c encrypted_info secrets rnd n (map package_and_leaf_of joiners)
+    ≡ Err (number_of e)
 
 -- The call answers the message of a Welcome with this encrypted GroupInfo, or refuses with the number of what fails, memory
 -- aside.
-abbrev pub SealsMessage : Crypto → List ℕ → Sealer → List Joiner → ℕ → Result (Vec ℕ) WelcomeError → Type 0
+abbrev pub SealsMessage : Crypto → List ℕ → Sealer → List Joiner → ℕ → Result (Vec ℕ) WelcomeError →
+    Type 0
 SealsMessage c encrypted_info sealer joiners first result =
     (secrets : ℕ → List ℕ) → AreSecretsOf sealer.joiner_secret.now secrets joiners →
     GivesBytes (message_with c encrypted_info secrets (seal_seed sealer.seed.now) first (map package_and_leaf_of joiners)) result
 
 -- The call answers the message of a Welcome with this GroupInfo, or refuses with the number of what fails, memory aside.
-abbrev pub MakesWelcome : Crypto → GroupInfo → List ℕ → List Joiner → List ℕ → ℕ → Result (Vec ℕ) WelcomeError → Type 0
+abbrev pub MakesWelcome : Crypto → GroupInfo → List ℕ → List Joiner → List ℕ → ℕ →
+    Result (Vec ℕ) WelcomeError → Type 0
 MakesWelcome c info joiner_secret joiners seed first result =
     (secrets : ℕ → List ℕ) → AreSecretsOf joiner_secret secrets joiners →
     GivesBytes (welcome_message c info joiner_secret secrets (seal_seed seed) first (map package_and_leaf_of joiners)) result

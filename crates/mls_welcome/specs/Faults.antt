@@ -27,4 +27,5 @@ PassesOutright checks result = AnswersOutright (λ _. passed) number_of checks r
 -- The text has no more bytes than a message may have, or the call refuses with 6.
 abbrev pub Measures : {A : Type 0} → List ℕ → Result A WelcomeError → Type 0
 Measures bytes result =
-    MatchResult result (λ _. length bytes ≤ input_limit) (λ e. (number_of e ≡ 6) × (input_limit < length bytes))
+    MatchResult result (λ _. length bytes ≤ input_limit)
+    (λ e. (number_of e ≡ 6) × (input_limit < length bytes))
