@@ -100,6 +100,6 @@ abbrev pub AddsWelcome : Crypto → Speaker → List Used → SentCommit → Opt
     PrivateKeys → ℕ → List ℕ → Result NewCommit MakeError → Type 0
 AddsWelcome c s used sent secrets keys first seed result =
     (m : Member) (wants : Bool) (made : MadePath) → Speaks m s →
-    IsOwn c m used sent.change.edits wants seed made (option_copied secrets) keys →
+    IsOwn c m used sent.outcome.change.edits wants seed made (option_copied secrets) keys →
     path_seals made.path ≡ first →
     Answers made_as number_of (with_welcome c m used made seed (sent_as sent)) result

@@ -50,7 +50,7 @@ abbrev pub sent_as : declared.SentCommit → SentCommit
 sent_as s =
     record {
       message = s.message.items;
-      change = s.change;
+      change = s.outcome.change;
       joiner = s.joiner;
       epoch_secret = s.epoch;
       tag = s.tag;
@@ -114,7 +114,7 @@ tag_of epoch change = confirmation_tag epoch change.context.confirmed_transcript
 -- the change is what the speaker's content makes with these extensions, these edits and this tree
 abbrev pub HasChange : Speaker → List Extension → Edits → Tree → FramedContent → Draft → Type 0
 HasChange s carried e tree said d =
-    d.change ≡ change_of s.group.now carried e (term tree) (framed_content.spell said)
+    d.outcome.change ≡ change_of s.group.now carried e (term tree) (framed_content.spell said)
     d.signature.items
 
 -- the commit whose content this is, if it is of one, is no larger than a message may be

@@ -34,7 +34,7 @@ use Rattle.mls_model.specs.Commit.{Edits}
 use Rattle.mls_model.specs.Member.{Member, follow_edits, without_pending}
 use Rattle.mls_model.specs.Messages.{is_content_signed, content_tag}
 use Rattle.mls_model.specs.Verdict.{bytes_verdict, commit_verdict, framing_checks, open_path_secret, own_pending, proposal_verdict, message_verdict, new_proposal, enter_epoch_with}
-use Rattle.mls_commit.specs.Received.{Received}
+use Rattle.mls_commit.specs.Outcome.{Outcome}
 use Rattle.mls_member.specs.Faults.{number_of, Does}
 use Rattle.mls_member.specs.Process.{sender_of, check_sender, outer_checks, check_commit, edited_keys, follow_commit}
 use Rattle.mls_member.specs.declared.error.Refusal.{Refusal}
@@ -149,7 +149,7 @@ OpensPath c e committer path keys context result =
 -- The call answers what a commit makes of the public state and whether it removes the member, or refuses with the number of
 -- the first check that fails, memory aside.
 abbrev pub ChecksCommit : Crypto → Member → ℕ → Commit → List ℕ → List ℕ →
-    Result (Received × Bool) Refusal → Type 0
+    Result (Outcome × Bool) Refusal → Type 0
 ChecksCommit c m committer commit said signature result =
     (content : FramedContent) → framed_content.spell content ≡ said →
     Answers (λ x. (x.0.change, x.1)) number_of (check_commit c m committer commit content signature)
@@ -157,22 +157,22 @@ ChecksCommit c m committer commit said signature result =
 
 -- The call answers the commit secret and the member's keys in the new tree, or refuses with the number of what fails,
 -- memory aside.
-abbrev pub OpensSecret : Crypto → Member → ℕ → Received → Commit → Result Reached Refusal → Type 0
+abbrev pub OpensSecret : Crypto → Member → ℕ → Outcome → Commit → Result Reached Refusal → Type 0
 OpensSecret c m committer r commit result =
     Answers (λ r. climb_to r.secret r.keys) number_of
     (open_path_secret c m committer r.change (edited_keys m commit r.change) commit.path) result
 
 -- the epoch secret that a received commit leads to, by its commit secret (RFC 9420, 8)
-abbrev pub epoch_after : Member → List ℕ → Received → List ℕ
+abbrev pub epoch_after : Member → List ℕ → Outcome → List ℕ
 epoch_after m secret r =
     next_epoch_secret (init_secret m.epoch_secret) secret (group_context.spell r.change.context)
 
 -- the confirmation tag that a received commit has in its epoch (RFC 9420, 8.1)
-abbrev pub tag_after : List ℕ → Received → List ℕ
+abbrev pub tag_after : List ℕ → Outcome → List ℕ
 tag_after epoch r = confirmation_tag epoch r.change.context.confirmed_transcript_hash
 
 -- The call enters the next epoch, or refuses with 65, memory aside.
-abbrev pub EntersEpoch : Received → Reached → List ℕ → Member → Member → Result Effect Refusal →
+abbrev pub EntersEpoch : Outcome → Reached → List ℕ → Member → Member → Result Effect Refusal →
     Type 0
 EntersEpoch r reached tag old new result =
     Does (enter_epoch_with old r.change reached.secret reached.keys tag) old new result

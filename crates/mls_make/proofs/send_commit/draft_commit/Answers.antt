@@ -6,6 +6,6 @@ use Rattle.mls_make.proofs.send_commit.draft_commit.Goals as goal
 
 pub returns-clause-change : goal.returns-clause-change
 returns-clause-change g c =
-    c.in_ok-change.ensures
+    c.in_ok-outcome.ensures
     ∙ ap (λ (b : List ℕ). change_of c.args.speaker.now.group.now c.args.extensions.now c.args.edits (term c.args.tree) b c.deref.result.now) c.bytes.ensures.bytes
     ∙ ap (λ (s : List ℕ). change_of c.args.speaker.now.group.now c.args.extensions.now c.args.edits (term c.args.tree) (framed_content.spell c.args.framed.now) s) c.deref.ensures.value

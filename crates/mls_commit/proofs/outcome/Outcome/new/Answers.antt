@@ -4,7 +4,7 @@ use Rattle.mls_public_group.specs.Short.{IsShortContext}
 use Rattle.mls_types.specs.declared.group_context.GroupContext.{GroupContext}
 use Rattle.mls_public_group.proofs.ShortLaws.{short_provisional}
 use Rattle.mls_commit.proofs.Contexts.{short_confirmed}
-use Rattle.mls_commit.proofs.received.Received.new.Goals as goal
+use Rattle.mls_commit.proofs.outcome.Outcome.new.Goals as goal
 
 pub invariant_of-result : goal.invariant_of-result
 invariant_of-result c =
