@@ -95,7 +95,7 @@ impl PublicTree {
     fn path_length(&self, i: u32) -> u32
         ensures { result ≡ path_length 0 (term self.now) i }
     {
-        array::path_length(&self.nodes, self.height, 0, i)
+        array::path_length(&self.subtree(), i)
     }
 
     /// The parent hash that reaches leaf i, where there is one.
@@ -103,8 +103,7 @@ impl PublicTree {
         requires { self.now.kept ≡ hashes_of 0 (term self.now) }
         ensures { hash_bytes result ≡ path_parent_hash (term self.now) i keys.now }
     {
-        let kept = self.hashes.as_slice();
-        array::path_hash(&self.nodes, kept, self.height, 0, i, keys, None)
+        array::path_hash(&self.hashed_subtree(), i, keys, None)
     }
 
     /// The parents over leaf i, the highest first, and the parent hash that reaches it.
@@ -114,8 +113,7 @@ impl PublicTree {
         ensures hash { IfOk result (HasPathHash (term self.now) i keys.items) }
     {
         let alloc = *self.nodes.allocator();
-        let kept = self.hashes.as_slice();
-        let path = array::path_parents(alloc, &self.nodes, kept, self.height, 0, i, keys)?;
+        let path = array::path_parents(alloc, &self.hashed_subtree(), i, keys)?;
         Ok(path)
     }
 
@@ -185,7 +183,7 @@ impl PublicTree {
         }
         let levels = self.height as usize;
         let mut counts = Vec::with_capacity(*self.nodes.allocator(), levels)?;
-        array::ciphertext_counts(&self.nodes, self.height, 0, i, added, &mut counts)?;
+        array::ciphertext_counts(&self.subtree(), i, added, &mut counts)?;
         Ok(counts)
     }
 

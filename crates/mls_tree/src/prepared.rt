@@ -63,18 +63,8 @@ impl PublicTree {
         let levels = self.height as usize + 1;
         let mut hashes = Vec::with_capacity(*self.nodes.allocator(), levels)?;
         let mut done = 0;
-        let kept = self.hashes.as_slice();
-        let root = array::merged_hashes(
-            &self.nodes,
-            kept,
-            self.height,
-            0,
-            i,
-            parents,
-            leaf,
-            &mut hashes,
-            &mut done,
-        )?;
+        let tree = self.hashed_subtree();
+        let root = array::merged_hashes(&tree, i, parents, leaf, &mut hashes, &mut done)?;
         Ok((hashes, root))
     }
 
