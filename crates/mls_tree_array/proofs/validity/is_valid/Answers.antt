@@ -11,6 +11,6 @@ returns c =
     ok_map
     (λ v. v ≡ has_witness c.args.parent.now c.args.right.now.first c.args.right.now.term c.args.left.now.first c.args.left.now.term)
     (λ v. v ≡ is_parent_hash_valid c.args.left.now.first c.args.parent.now c.args.left.now.term c.args.right.now.term)
-    c.has_witness.result
+    c.has_witness-2.result
     (λ v is. rw (valid_by c.args.parent.now c.args.left.now c.args.right.now c.requires.middle, ← c.in_ok-has_witness.ensures, c.if-branch.false) is)
-    c.has_witness.ensures
+    c.has_witness-2.ensures
