@@ -35,3 +35,5 @@ pub mod KeptOrDropped
 pub mod Splitting
 pub mod WayHashes
 pub mod Blanks
+pub mod WitnessLaws
+pub mod ChainLaws

@@ -1,5 +1,5 @@
 -- Tree hashes of original trees, by the root and its sides.
-use Rattle.std.proofs.Common.{◌≡◌, ℕ, ◌+◌, true, false, not, ◌&&◌, List, [], ◌∷◌, Option, Some, None, sym, ◌∙◌, ap, refl, arith}
+use Rattle.std.proofs.Common.{◌≡◌, ℕ, ◌+◌, true, false, not, ◌&&◌, if◌then◌else◌, List, [], ◌∷◌, Option, Some, None, sym, ◌∙◌, ap, refl, arith}
 use Rattle.std.specs.List.{list_all}
 use Rattle.std.proofs.lemmas.Bool.{and_parts, cond-true, cond-false}
 use Rattle.mls_leaf.specs.Parent.{Parent}
@@ -58,3 +58,9 @@ original_sides us t l c r over =
 
 pub hash_sides : (t l : Subtree) (c : Option Parent) (r : Subtree) → IsOver t l c r → tree_hash t.first t.term ≡ branch_hash c (tree_hash l.first l.term) (tree_hash r.first r.term)
 hash_sides t l c r over = rw (over.is, over.left_first, over.right_first) (tree_hash_branch t.first c l.term r.term)
+
+-- ---- the same of all nodes hashed again
+
+pub leaf_original : (us : List ℕ) (t : Subtree) (v : Option LeafNode) → t.term ≡ Leaf v → tree_hash t.first (original_tree us t.first t.term) ≡ leaf_hash t.first (if has us t.first then None else v)
+leaf_original us t v is =
+    rw is (ap (tree_hash t.first) (original_leaf t.first v us) ∙ tree_hash_leaf t.first (if has us t.first then None else v))

@@ -16,7 +16,7 @@ ok_map P Q (Err e) f h = h
 -- ---- a side that a node ties
 
 -- the hash that is asked for
-asked_hash : (p : Parent) (k : ℕ) (s : Term) (key hash us sibling g : List ℕ) → key ≡ p.encryption_key → hash ≡ p.parent_hash → us ≡ p.unmerged_leaves → sibling ≡ tree_hash k (original_tree us k s) → g ≡ sibling_hash key hash sibling → g ≡ parent_hash p k s
+pub asked_hash : (p : Parent) (k : ℕ) (s : Term) (key hash us sibling g : List ℕ) → key ≡ p.encryption_key → hash ≡ p.parent_hash → us ≡ p.unmerged_leaves → sibling ≡ tree_hash k (original_tree us k s) → g ≡ sibling_hash key hash sibling → g ≡ parent_hash p k s
 unfolding parent_hash
 asked_hash p k s key hash us sibling g is_key is_hash is_list is_sibling is =
     is

@@ -1,11 +1,11 @@
 //! Tree hashes of trees as they were before some leaves were added (RFC 9420, 7.9).
 
-ghost use Rattle.std.specs.Prelude.{◌≡◌, true, not};
+ghost use Rattle.std.specs.Prelude.{◌≡◌, true, not, None, if◌then◌else◌};
 ghost use Rattle.std.specs.List.{list_all};
 ghost use Rattle.std.specs.Option.{option_copied};
 ghost use Rattle.mls_leaf.specs.Parent.{rises};
 ghost use Rattle.mls_tree_model.specs.Sets.{has};
-ghost use Rattle.mls_tree_model.specs.Inputs.{branch_hash};
+ghost use Rattle.mls_tree_model.specs.Inputs.{leaf_hash, branch_hash};
 ghost use Rattle.mls_tree_model.specs.Lists.{lists_here, all_parents};
 ghost use Rattle.mls_tree_array.specs.Splits.{Splits};
 ghost use Rattle.mls_tree_array.specs.Witnesses.{unmerged_leaves_of};
@@ -14,10 +14,11 @@ ghost use Rattle.mls_tree_hash.specs.Originals.{hash_without};
 
 use crate::hashed_subtree::{HashedParts, HashedSubtree};
 use crate::lists::has;
-use crate::places::parent_in;
+use crate::places::{leaf_in, parent_in};
+use crate::subtree::{Parts, Subtree};
 use crate::validity::same_bytes;
-use mls_leaf::ParentNode;
-use mls_tree_hash::{Hash, branch_hash_without, leaf_hash_without};
+use mls_leaf::{LeafNode, ParentNode};
+use mls_tree_hash::{Hash, branch_hash_without, leaf_hash, leaf_hash_without};
 
 /// The unmerged leaves of a place that may be blank.
 fn unmerged_leaves_of(parent: Option<&ParentNode>) -> &[u32]
@@ -122,6 +123,34 @@ pub(crate) fn original_hash(tree: &HashedSubtree<'_>, unmerged: &[u32]) -> Hash
             let right = original_hash(&right, &unmerged[count..]);
             let parent = parent_in(root);
             original_root_hash(parent, unmerged, &left, &right, &old_left, &old_right, &own)
+        }
+    }
+}
+
+/// The tree hash of a leaf that is blank where it was added. No counter counts it.
+fn rehashed_leaf(leaf: Option<&LeafNode>, number: u32, unmerged: &[u32]) -> Hash
+    requires { rises unmerged.now ≡ true }
+    ensures { result ≡ leaf_hash number (if has unmerged.now number then None else option_copied leaf.entry) }
+{
+    if has(unmerged, number) {
+        return leaf_hash_without(number);
+    }
+    let mut done = 0;
+    leaf_hash(number, leaf, &mut done)
+}
+
+/// The tree hash of a tree as it was before some leaves were added, whatever its parents list. Each of its nodes is
+/// hashed.
+pub(crate) fn rehashed_original(tree: &Subtree<'_>, unmerged: &[u32]) -> Hash
+    requires { rises unmerged.now ≡ true }
+    ensures { result ≡ original_hash unmerged.now tree.now.first tree.now.term }
+{
+    match tree.parts() {
+        Parts::Leaf(place) => rehashed_leaf(leaf_in(place), tree.first(), unmerged),
+        Parts::Branch { left, root, right } => {
+            let left = rehashed_original(&left, unmerged);
+            let right = rehashed_original(&right, unmerged);
+            branch_hash_without(unmerged, parent_in(root), &left, &right)
         }
     }
 }

@@ -8,7 +8,7 @@ use crate::subtree::Subtree;
 use std::alloc::AllocError;
 
 /// Adds a number where a test holds.
-fn push_if(test: bool, x: u32, out: &mut Vec<u32>) -> Result<(), AllocError>
+pub(crate) fn push_if(test: bool, x: u32, out: &mut Vec<u32>) -> Result<(), AllocError>
     ensures { OnOk result (out.new.items ≡ out.old.items ++ (if test then x ∷ [] else [])) }
 {
     if test {

@@ -51,7 +51,7 @@ fn parent_has_hash(node: &Slot, hash: &Hash) -> bool
 }
 
 /// Whether a node of a tree has this parent hash.
-fn has_hash(tree: &Subtree<'_>, node: u64, hash: &Hash) -> bool
+pub(crate) fn has_hash(tree: &Subtree<'_>, node: u64, hash: &Hash) -> bool
     ensures { result ≡ is_some_bytes (hash_at tree.now.first tree.now.term node) hash.now }
 {
     match subtree_at(tree, node) {
