@@ -11,6 +11,7 @@ ghost use Rattle.mls_tree_model.specs.Hashes.{is_some_bytes};
 ghost use Rattle.mls_tree_model.specs.Merge.{path_parent_hash};
 ghost use Rattle.mls_tree_model.specs.Arrays.{term_of};
 ghost use Rattle.mls_tree_array.specs.KeptHashes.{hashes_of};
+ghost use Rattle.mls_tree_array.specs.LastPath.{last_path};
 ghost use Rattle.mls_tree_array.specs.Standing.{Stands};
 ghost use Rattle.mls_tree_array.specs.Merging.{hash_bytes};
 ghost use Rattle.mls_tree_array.specs.PathParents.{HasParents};
@@ -185,6 +186,14 @@ impl PublicTree {
         let mut counts = Vec::with_capacity(*self.nodes.allocator(), levels)?;
         array::ciphertext_counts(&self.subtree(), i, added, &mut counts)?;
         Ok(counts)
+    }
+
+    /// The path of the last commit that had one, as node indices, from the root down to its leaf: the parent hashes tell
+    /// it (RFC 9420, 7.9.2). Empty where the root is blank or the tree is a leaf.
+    pub fn last_path(&self) -> Result<Vec<u32>, AllocError>
+        ensures { IfOk result (λ v. v.items ≡ last_path (term self.now)) }
+    {
+        array::last_path(*self.nodes.allocator(), &self.subtree())
     }
 
     /// The parent hash that the leaf of a path with these keys must have, the lowest first: empty where the filtered

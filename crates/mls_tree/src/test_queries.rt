@@ -68,6 +68,11 @@ pub(crate) fn filtered_path(
     Ok(widen(alloc, &path)?)
 }
 
+pub(crate) fn last_path(alloc: Global, tree: &PublicTree) -> Result<Vec<u64>, TreeError> {
+    let path = tree.last_path()?;
+    Ok(widen(alloc, &path)?)
+}
+
 pub(crate) fn ciphertext_counts(
     alloc: Global,
     tree: &PublicTree,

@@ -54,7 +54,7 @@ kept_at ls xs f (Some d) e =
     none_kept : (f g : ℕ → Bool) (d : ℕ) → (f d && g d) ≡ false → keep_if f (keep_if g (Some d)) ≡ None
     none_kept f g d t =
         elim (cases_Bool (g d)) [
-          | inl y ↦ ap (keep_if f) (cond-true _ _ _ y) ∙ cond-false _ _ _ (elim (cases_Bool (f d)) [ | inl z ↦ absurd (true≢false (sym (and_from (f d) (g d) z y) ∙ t)) | inr z ↦ z ])
+          | inl y ↦ ap (keep_if f) (cond-true _ _ _ y) ∙ cond-false _ _ _ (elim (cases_Bool (f d)) [ inl z ↦ absurd (true≢false (sym (and_from (f d) (g d) z y) ∙ t)) | inr z ↦ z ])
           | inr y ↦ ap (keep_if f) (cond-false _ _ _ y)
         ]
 

@@ -5,13 +5,13 @@
 //! recursion over the slice of its nodes: first those of its left side, then its root, then those of its right side.
 #![tactic(auto)]
 
+mod chains;
 mod counts;
 mod distinct;
 mod edits;
 mod hashed_subtree;
 mod hashes;
 mod kept_hashes;
-mod last_path;
 mod lists;
 mod lookup;
 mod members;
@@ -27,12 +27,12 @@ mod validity;
 mod way_hashes;
 mod witnesses;
 
+pub use chains::last_path;
 pub use counts::{ciphertext_counts, is_leaf_among};
 pub use distinct::are_distinct;
 pub use edits::{enter, put};
 pub use hashed_subtree::HashedSubtree;
 pub use kept_hashes::Hashes;
-pub use last_path::last_path;
 pub use lists::has_good_lists;
 pub use lookup::{leaf, node};
 pub use members::{end_of_members, first_blank, has_leaf, is_full_width, member_count};
