@@ -53,20 +53,24 @@ module _ (t l : Subtree) (c : Option Parent) (r : Subtree) (over : IsOver t l c 
   abbrev below : ℕ → List ℕ
   below d = if nat_lt d x then chain_at l.first l.term d else chain_at r.first r.term d
 
-  module _ (at : x ≡ root_number t.first t.term) where
-    at_own : chain_at t.first t.term x ≡ x ∷ nodes_from below (witness_of c l.first l.term r.term)
-    at_own = rw (over.is, over.left_first, over.right_first) (chain_here t.first c l.term r.term x (at ∙ ap (root_number t.first) over.is))
+  -- node x is the root, whose number is written as `own`
+  module _ (own : ℕ) (at : own ≡ root_number t.first t.term) (same : x ≡ own) where
+    at_own : chain_at t.first t.term x ≡ own ∷ nodes_from below (witness_of c l.first l.term r.term)
+    at_own = here ∙ ap (λ n. n ∷ nodes_from below (witness_of c l.first l.term r.term)) same
+      where
+        here : chain_at t.first t.term x ≡ x ∷ nodes_from below (witness_of c l.first l.term r.term)
+        here = rw (over.is, over.left_first, over.right_first) (chain_here t.first c l.term r.term x (same ∙ at ∙ ap (root_number t.first) over.is))
 
-    pub chain_ends : None ≡ witness_of c l.first l.term r.term → chain_at t.first t.term x ≡ x ∷ []
-    chain_ends none = at_own ∙ ap (λ o. x ∷ nodes_from below o) (sym none)
+    pub chain_ends : None ≡ witness_of c l.first l.term r.term → chain_at t.first t.term x ≡ own ∷ []
+    chain_ends none = at_own ∙ ap (λ o. own ∷ nodes_from below o) (sym none)
 
-    pub chain_on_left : (d : ℕ) → Some d ≡ witness_of c l.first l.term r.term → d < x → chain_at t.first t.term x ≡ x ∷ chain_at l.first l.term d
+    pub chain_on_left : (d : ℕ) → Some d ≡ witness_of c l.first l.term r.term → d < x → chain_at t.first t.term x ≡ own ∷ chain_at l.first l.term d
     chain_on_left d some low =
-        at_own ∙ ap (λ o. x ∷ nodes_from below o) (sym some) ∙ ap (λ ys. x ∷ ys) (cond-true _ _ _ (lt-ltb d x low))
+        at_own ∙ ap (λ o. own ∷ nodes_from below o) (sym some) ∙ ap (λ ys. own ∷ ys) (cond-true _ _ _ (lt-ltb d x low))
 
-    pub chain_on_right : (d : ℕ) → Some d ≡ witness_of c l.first l.term r.term → x ≤ d → chain_at t.first t.term x ≡ x ∷ chain_at r.first r.term d
+    pub chain_on_right : (d : ℕ) → Some d ≡ witness_of c l.first l.term r.term → x ≤ d → chain_at t.first t.term x ≡ own ∷ chain_at r.first r.term d
     chain_on_right d some high =
-        at_own ∙ ap (λ o. x ∷ nodes_from below o) (sym some) ∙ ap (λ ys. x ∷ ys) (cond-false _ _ _ (le-ltb d x high))
+        at_own ∙ ap (λ o. own ∷ nodes_from below o) (sym some) ∙ ap (λ ys. own ∷ ys) (cond-false _ _ _ (le-ltb d x high))
 
 -- ---- the witness of a parent over two sides
 
