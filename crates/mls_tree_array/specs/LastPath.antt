@@ -28,7 +28,8 @@ unfoldable pub chain_at : ℕ → Term → ℕ → List ℕ
 chain_at b (Leaf v) n = if n == 2 * b then n ∷ [] else []
 chain_at b (Branch c l r) n =
     if n == 2 * b + size l
-    then n ∷ nodes_from (λ d. if nat_lt d n then chain_at b l d else chain_at (b + width l) r d) (witness_of c b l r)
+    then n ∷ nodes_from (λ d. if nat_lt d n then chain_at b l d else chain_at (b + width l) r d)
+    (witness_of c b l r)
     else if nat_lt n (2 * b + size l) then chain_at b l n else chain_at (b + width l) r n
 
 -- the path of the last commit that had one, from the root down to its leaf, as node numbers: the chain of witnesses from

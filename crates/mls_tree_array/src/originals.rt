@@ -1,6 +1,6 @@
 //! Tree hashes of trees as they were before some leaves were added (RFC 9420, 7.9).
 
-ghost use Rattle.std.specs.Prelude.{◌≡◌, true, not, None, if◌then◌else◌};
+ghost use Rattle.std.specs.Prelude.{◌≡◌, true, not};
 ghost use Rattle.std.specs.List.{list_all};
 ghost use Rattle.std.specs.Option.{option_copied};
 ghost use Rattle.mls_leaf.specs.Parent.{rises};
@@ -9,7 +9,7 @@ ghost use Rattle.mls_tree_model.specs.Inputs.{leaf_hash, branch_hash};
 ghost use Rattle.mls_tree_model.specs.Lists.{lists_here, all_parents};
 ghost use Rattle.mls_tree_array.specs.Splits.{Splits};
 ghost use Rattle.mls_tree_array.specs.Witnesses.{unmerged_leaves_of};
-ghost use Rattle.mls_tree_array.specs.Originals.{original_hash, Stays};
+ghost use Rattle.mls_tree_array.specs.Originals.{original_hash, leaf_before, Stays};
 ghost use Rattle.mls_tree_hash.specs.Originals.{hash_without};
 
 use crate::hashed_subtree::{HashedParts, HashedSubtree};
@@ -130,7 +130,7 @@ pub(crate) fn original_hash(tree: &HashedSubtree<'_>, unmerged: &[u32]) -> Hash
 /// The tree hash of a leaf that is blank where it was added. No counter counts it.
 fn rehashed_leaf(leaf: Option<&LeafNode>, number: u32, unmerged: &[u32]) -> Hash
     requires { rises unmerged.now ≡ true }
-    ensures { result ≡ leaf_hash number (if has unmerged.now number then None else option_copied leaf.entry) }
+    ensures { result ≡ leaf_hash number (leaf_before unmerged.now number (option_copied leaf.entry)) }
 {
     if has(unmerged, number) {
         return leaf_hash_without(number);
