@@ -1,7 +1,7 @@
 -- The witness of a parent on a side, by the only node that can be one.
-use Rattle.std.proofs.Common.{◌≡◌, ℕ, true, false, not, ◌&&◌, List, Option, Some, None, refl, sym, ◌∙◌, ap, inl, inr}
+use Rattle.std.proofs.Common.{◌≡◌, ℕ, Bool, true, false, not, ◌&&◌, List, Option, Some, None, refl, sym, ◌∙◌, ap, inl, inr}
 use Rattle.std.specs.List.{find}
-use Rattle.std.proofs.lemmas.Bool.{true≢false, cases_Bool, and_parts, and_from, not-true, cond-true, cond-false}
+use Rattle.std.proofs.lemmas.Bool.{true≢false, cases_Bool, and_parts, and_from, not-true, false_from_ne_true, cond-true, cond-false}
 use Rattle.mls_leaf.specs.Parent.{Parent}
 use Rattle.mls_tree_model.specs.Sets.{has, within, leaf_numbers, is_same_set}
 use Rattle.mls_tree_model.specs.Term.{Term, width}
@@ -23,7 +23,20 @@ found_by q xs want none some = go (find q xs) refl
     go None e = e ∙ none e
     go (Some d) e = let s = find_some q xs d e in e ∙ some d s.0 s.1
 
--- where it also passes the test that the others make a set
+-- what passes two tests, or not
+both_kept : (f g : ℕ → Bool) (d : ℕ) → f d ≡ true → g d ≡ true → Some d ≡ keep_if f (keep_if g (Some d))
+both_kept f g d y z = sym (ap (keep_if f) (cond-true (g d) (Some d) None z) ∙ cond-true (f d) (Some d) None y)
+
+none_kept : (f g : ℕ → Bool) (d : ℕ) → (f d && g d) ≡ false → None ≡ keep_if f (keep_if g (Some d))
+none_kept f g d t =
+    elim (cases_Bool (g d)) [
+      | inl z ↦
+          let other : f d ≡ false = false_from_ne_true (f d) (λ y. absurd (true≢false (sym (and_from (f d) (g d) y z) ∙ t))) in
+          sym (ap (keep_if f) (cond-true (g d) (Some d) None z) ∙ cond-false (f d) (Some d) None other)
+      | inr z ↦ sym (ap (keep_if f) (cond-false (g d) (Some d) None z))
+    ]
+
+-- the first node for which the others are a set, and that passes a test
 kept_at : (ls xs : List ℕ) (f : ℕ → Bool) (o : Option ℕ) → first_outside ls xs ≡ o → find (λ d. f d && is_same_set ls (others d xs)) xs ≡ keep_if f (keep_if (λ d. is_same_set ls (others d xs)) o)
 kept_at ls xs f None e =
     found_by (λ d. f d && is_same_set ls (others d xs)) xs None (λ _. refl)
@@ -34,29 +47,21 @@ kept_at ls xs f None e =
 kept_at ls xs f (Some d) e =
     let s = find_some (λ x. not (has ls x)) xs d e in
     let out : has ls d ≡ false = not-true (has ls d) s.1 in
-    let same : (x : ℕ) → (f x && is_same_set ls (others x xs)) ≡ true → d ≡ x = λ x passes.
-    one ls xs d x (and_parts (f x) (is_same_set ls (others x xs)) passes).1 s.0 out in
-    let test : (x : ℕ) → (f x && is_same_set ls (others x xs)) ≡ true → (f d && is_same_set ls (others d xs)) ≡ true = λ x passes.
-    ap (λ y. f y && is_same_set ls (others y xs)) (same x passes) ∙ passes in
     elim (cases_Bool (f d && is_same_set ls (others d xs))) [
       | inl t ↦
           let p = and_parts (f d) (is_same_set ls (others d xs)) t in
-          found_by (λ x. f x && is_same_set ls (others x xs)) xs (Some d)
+          found_by (λ x. f x && is_same_set ls (others x xs)) xs (keep_if f (keep_if (λ x. is_same_set ls (others x xs)) (Some d)))
           (λ none. absurd (true≢false (sym t ∙ find_none (λ x. f x && is_same_set ls (others x xs)) xs d none s.0)))
-          (λ x there passes. ap Some (sym (same x passes)))
-          ∙ sym (ap (keep_if f) (cond-true _ _ _ p.1) ∙ cond-true _ _ _ p.0)
+          (λ x there passes.
+          let q = and_parts (f x) (is_same_set ls (others x xs)) passes in
+          ap Some (sym (one ls xs d x q.1 s.0 out)) ∙ both_kept f (λ x. is_same_set ls (others x xs)) d p.0 p.1)
       | inr t ↦
-          found_by (λ x. f x && is_same_set ls (others x xs)) xs None (λ _. refl)
-          (λ x there passes. absurd (true≢false (sym (test x passes) ∙ t)))
-          ∙ sym (none_kept f (λ x. is_same_set ls (others x xs)) d t)
+          found_by (λ x. f x && is_same_set ls (others x xs)) xs (keep_if f (keep_if (λ x. is_same_set ls (others x xs)) (Some d)))
+          (λ none. none_kept f (λ x. is_same_set ls (others x xs)) d t)
+          (λ x there passes.
+          let q = and_parts (f x) (is_same_set ls (others x xs)) passes in
+          absurd (true≢false (sym (ap (λ y. f y && is_same_set ls (others y xs)) (one ls xs d x q.1 s.0 out) ∙ passes) ∙ t)))
     ]
-  where
-    none_kept : (f g : ℕ → Bool) (d : ℕ) → (f d && g d) ≡ false → keep_if f (keep_if g (Some d)) ≡ None
-    none_kept f g d t =
-        elim (cases_Bool (g d)) [
-          | inl y ↦ ap (keep_if f) (cond-true _ _ _ y) ∙ cond-false _ _ _ (elim (cases_Bool (f d)) [ inl z ↦ absurd (true≢false (sym (and_from (f d) (g d) z y) ∙ t)) | inr z ↦ z ])
-          | inr y ↦ ap (keep_if f) (cond-false _ _ _ y)
-        ]
 
 -- ---- the witness
 
@@ -78,7 +83,9 @@ module _ (p : Parent) (b m d : ℕ) (c s : Term) (key hash us sibling g : List �
   asked = ap (is_some_bytes (hash_at b c d)) (sym (asked_hash p m s key hash us sibling g is_key is_hash is_list is_sibling is_asked))
 
   pub the_witness : is_some_bytes (hash_at b c d) g ≡ true → Some d ≡ witness p b c m s
-  the_witness has_it = sym (kept ∙ cond-true _ _ _ (asked ∙ has_it))
+  the_witness has_it =
+      sym (kept ∙ cond-true (is_some_bytes (hash_at b c d) (parent_hash p m s)) (Some d) None (asked ∙ has_it))
 
   pub not_witness : is_some_bytes (hash_at b c d) g ≡ false → None ≡ witness p b c m s
-  not_witness has_not = sym (kept ∙ cond-false _ _ _ (asked ∙ has_not))
+  not_witness has_not =
+      sym (kept ∙ cond-false (is_some_bytes (hash_at b c d) (parent_hash p m s)) (Some d) None (asked ∙ has_not))
