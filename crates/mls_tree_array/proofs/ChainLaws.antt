@@ -43,6 +43,10 @@ module _ (b : ℕ) (c : Option Parent) (l r : Term) (n : ℕ) where
   unfolding chain_at
   chain_right high = cond-false _ _ _ (ne_eqb n (2 * b + size l) (λ e. absurd (omega arith))) ∙ cond-false _ _ _ (le-ltb n (2 * b + size l) (omega arith))
 
+-- the chain from a node of two sides, by the number that parts them
+abbrev below : Subtree → Subtree → ℕ → ℕ → List ℕ
+below l r x d = if nat_lt d x then chain_at l.first l.term d else chain_at r.first r.term d
+
 module _ (t l : Subtree) (c : Option Parent) (r : Subtree) (over : IsOver t l c r) (x : ℕ) where
   pub chain_low : x < root_number t.first t.term → chain_at t.first t.term x ≡ chain_at l.first l.term x
   chain_low low = rw (over.is, over.left_first) (chain_left t.first c l.term r.term x (rw over.is at low))
@@ -50,27 +54,26 @@ module _ (t l : Subtree) (c : Option Parent) (r : Subtree) (over : IsOver t l c 
   pub chain_high : root_number t.first t.term < x → chain_at t.first t.term x ≡ chain_at r.first r.term x
   chain_high high = rw (over.is, over.right_first) (chain_right t.first c l.term r.term x (rw over.is at high))
 
-  abbrev below : ℕ → List ℕ
-  below d = if nat_lt d x then chain_at l.first l.term d else chain_at r.first r.term d
-
   -- node x is the root, whose number is written as `own`
   module _ (own : ℕ) (at : own ≡ root_number t.first t.term) (same : x ≡ own) where
-    at_own : chain_at t.first t.term x ≡ own ∷ nodes_from below (witness_of c l.first l.term r.term)
-    at_own = here ∙ ap (λ n. n ∷ nodes_from below (witness_of c l.first l.term r.term)) same
-      where
-        here : chain_at t.first t.term x ≡ x ∷ nodes_from below (witness_of c l.first l.term r.term)
-        here = rw (over.is, over.left_first, over.right_first) (chain_here t.first c l.term r.term x (same ∙ at ∙ ap (root_number t.first) over.is))
+    here : chain_at t.first t.term x ≡ x ∷ nodes_from (λ d. if nat_lt d x then chain_at l.first l.term d else chain_at r.first r.term d) (witness_of c l.first l.term r.term)
+    here =
+        rw (over.is, over.left_first, over.right_first)
+        (chain_here t.first c l.term r.term x (same ∙ at ∙ ap (root_number t.first) over.is))
+
+    at_own : chain_at t.first t.term x ≡ own ∷ nodes_from (below l r x) (witness_of c l.first l.term r.term)
+    at_own = here ∙ ap (λ n. n ∷ nodes_from (below l r x) (witness_of c l.first l.term r.term)) same
 
     pub chain_ends : None ≡ witness_of c l.first l.term r.term → chain_at t.first t.term x ≡ own ∷ []
-    chain_ends none = at_own ∙ ap (λ o. own ∷ nodes_from below o) (sym none)
+    chain_ends none = at_own ∙ ap (λ o. own ∷ nodes_from (below l r x) o) (sym none)
 
     pub chain_on_left : (d : ℕ) → Some d ≡ witness_of c l.first l.term r.term → d < x → chain_at t.first t.term x ≡ own ∷ chain_at l.first l.term d
     chain_on_left d some low =
-        at_own ∙ ap (λ o. own ∷ nodes_from below o) (sym some) ∙ ap (λ ys. own ∷ ys) (cond-true _ _ _ (lt-ltb d x low))
+        at_own ∙ ap (λ o. own ∷ nodes_from (below l r x) o) (sym some) ∙ ap (λ ys. own ∷ ys) (cond-true _ _ _ (lt-ltb d x low))
 
     pub chain_on_right : (d : ℕ) → Some d ≡ witness_of c l.first l.term r.term → x ≤ d → chain_at t.first t.term x ≡ own ∷ chain_at r.first r.term d
     chain_on_right d some high =
-        at_own ∙ ap (λ o. own ∷ nodes_from below o) (sym some) ∙ ap (λ ys. own ∷ ys) (cond-false _ _ _ (le-ltb d x high))
+        at_own ∙ ap (λ o. own ∷ nodes_from (below l r x) o) (sym some) ∙ ap (λ ys. own ∷ ys) (cond-false _ _ _ (le-ltb d x high))
 
 -- ---- the witness of a parent over two sides
 
