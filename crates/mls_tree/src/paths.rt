@@ -11,7 +11,7 @@ ghost use Rattle.mls_tree_model.specs.Hashes.{is_some_bytes};
 ghost use Rattle.mls_tree_model.specs.Merge.{path_parent_hash};
 ghost use Rattle.mls_tree_model.specs.Arrays.{term_of};
 ghost use Rattle.mls_tree_array.specs.KeptHashes.{hashes_of};
-ghost use Rattle.mls_tree_array.specs.LastPath.{last_path};
+ghost use Rattle.mls_tree_model.specs.LastPath.{last_path};
 ghost use Rattle.mls_tree_array.specs.Standing.{Stands};
 ghost use Rattle.mls_tree_array.specs.Merging.{hash_bytes};
 ghost use Rattle.mls_tree_array.specs.PathParents.{HasParents};

@@ -5,7 +5,7 @@ use Rattle.mls_leaf.specs.Parent.{Parent}
 use Rattle.mls_leaf.specs.declared.leaf.LeafNode.{LeafNode}
 use Rattle.mls_tree_model.specs.Term.{Term, Leaf, Branch, width, size}
 use Rattle.mls_tree_model.specs.Edits.{or_else}
-use Rattle.mls_tree_array.specs.LastPath.{witness, witness_of, nodes_from, chain_at, last_path}
+use Rattle.mls_tree_model.specs.LastPath.{witness, witness_of, nodes_from, chain_at, last_path}
 use Rattle.mls_tree_array.specs.Subtrees.{Subtree, root_number, end, IsOver}
 
 -- ---- of a leaf

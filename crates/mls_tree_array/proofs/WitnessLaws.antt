@@ -8,7 +8,7 @@ use Rattle.mls_tree_model.specs.Term.{Term, width}
 use Rattle.mls_tree_model.specs.Inputs.{sibling_hash}
 use Rattle.mls_tree_model.specs.Resolution.{resolution}
 use Rattle.mls_tree_model.specs.Hashes.{tree_hash, original_tree, hash_at, is_some_bytes, is_witness, parent_hash}
-use Rattle.mls_tree_array.specs.LastPath.{witness}
+use Rattle.mls_tree_model.specs.LastPath.{witness}
 use Rattle.mls_tree_array.specs.Witnesses.{others, first_outside, keep_if, only_outside, candidate}
 use Rattle.mls_tree_array.proofs.Others.{find_none, find_some, off, one}
 use Rattle.mls_tree_array.proofs.Ties.{asked_hash}

@@ -5,7 +5,7 @@ use Rattle.mls_leaf.specs.Parent.{Parent}
 use Rattle.mls_leaf.specs.declared.node.Node.{Node}
 use Rattle.mls_tree_model.specs.Arrays.{parent_in}
 use Rattle.mls_tree_array.specs.Additions.{Adds}
-use Rattle.mls_tree_array.specs.LastPath.{witness, witness_of, chain_at}
+use Rattle.mls_tree_model.specs.LastPath.{witness, witness_of, chain_at}
 use Rattle.mls_tree_array.specs.Subtrees.{Subtree, root_number}
 
 -- the witness of a parent on a side was found, by another side

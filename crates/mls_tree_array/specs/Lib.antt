@@ -18,5 +18,4 @@ pub mod Subtrees
 pub mod SubtreeParts
 pub mod Codes
 pub mod HashedParts
-pub mod LastPath
 pub mod Chains

@@ -2,7 +2,7 @@
 
 ghost use Rattle.std.specs.Prelude.{◌≡◌, Some, IfOk, OnOk};
 ghost use Rattle.mls_tree_array.specs.Chains.{FindsWitness, FindsWitnessOf, FindsRootWitness, AddsChain, HasChain};
-ghost use Rattle.mls_tree_array.specs.LastPath.{last_path};
+ghost use Rattle.mls_tree_model.specs.LastPath.{last_path};
 ghost use Rattle.mls_tree_array.specs.Subtrees.{end};
 
 use crate::originals::rehashed_original;

@@ -8,6 +8,7 @@ pub mod Edits
 pub mod Lists
 pub mod Inputs
 pub mod Hashes
+pub mod LastPath
 pub mod Merge
 pub mod Keys
 pub mod HeldKeys

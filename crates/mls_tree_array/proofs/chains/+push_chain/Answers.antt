@@ -1,5 +1,5 @@
 use Rattle.std.proofs.Common.{◌≡◌, Some, None, sym, ◌∙◌, arith, append_assoc}
-use Rattle.mls_tree_array.specs.LastPath.{witness_of}
+use Rattle.mls_tree_model.specs.LastPath.{witness_of}
 use Rattle.mls_tree_array.proofs.ChainLaws.{leaf_chain, chain_low, chain_high, chain_ends, chain_on_left, chain_on_right}
 use Rattle.mls_tree_array.proofs.chains.+push_chain.Goals as goal
 

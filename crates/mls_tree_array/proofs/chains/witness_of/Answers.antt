@@ -1,5 +1,5 @@
 use Rattle.std.proofs.Common.{◌≡◌, ◌∙◌}
-use Rattle.mls_tree_array.specs.LastPath.{witness, witness_of}
+use Rattle.mls_tree_model.specs.LastPath.{witness, witness_of}
 use Rattle.mls_tree_array.proofs.ChainLaws.{left_witness, right_witness}
 use Rattle.mls_tree_array.proofs.Ties.{ok_map}
 use Rattle.mls_tree_array.proofs.chains.witness_of.Goals as goal

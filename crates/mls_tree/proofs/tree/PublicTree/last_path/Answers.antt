@@ -1,3 +1,4 @@
+use Rattle.std.proofs.Common.{refl}
 use Rattle.mls_tree.proofs.tree.PublicTree.last_path.Goals as goal
 
 pub last_path-requires : goal.last_path-requires
