@@ -62,11 +62,7 @@ fn next_epoch(
 {
     let context = &change.context;
     let spelled = context_spelling(alloc, context)?;
-    let Start { joiner, epoch, .. } = Epoch::next(
-        speaker.epoch.init_secret(),
-        commit_secret,
-        &spelled,
-    );
+    let Start { joiner, epoch } = Epoch::next(speaker.epoch.init_secret(), commit_secret, &spelled);
     let tag = epoch.confirmation_tag(context.confirmed_transcript_hash.as_slice());
     Ok(Begun { joiner, epoch, tag })
 }

@@ -22,10 +22,6 @@ welcome_secret joiner = derive_secret (intermediate_secret joiner) (codes "welco
 unfoldable pub epoch_secret : List ℕ → List ℕ → List ℕ
 epoch_secret joiner context = expand_with_label (intermediate_secret joiner) (codes "epoch") context 32
 
--- the welcome secret of the next epoch, from init secret, commit secret and new context (RFC 9420, 8)
-unfoldable pub next_welcome : List ℕ → List ℕ → List ℕ → List ℕ
-next_welcome init commit_secret context = welcome_secret (joiner_secret init commit_secret context)
-
 -- the epoch secret of the next epoch, from init secret, commit secret and new context (RFC 9420, 8)
 unfoldable pub next_epoch_secret : List ℕ → List ℕ → List ℕ → List ℕ
 next_epoch_secret init commit_secret context = epoch_secret (joiner_secret init commit_secret context) context

@@ -5,7 +5,7 @@ ghost use Rattle.std.specs.Prelude.{◌≡◌, ◌<◌, ◌≤◌, ◌^◌, ◌�
 ghost use Rattle.mls_kdf.specs.Kdf.{joined_pieces, expand_with_label, max_output};
 ghost use Rattle.mls_kdf.specs.Outputs.{Fills};
 ghost use Rattle.mls_schedule.specs.Faults.{IsTooLong};
-ghost use Rattle.mls_schedule.specs.Epoch.{joiner_secret, welcome_secret, next_welcome, welcome_key, welcome_nonce, intermediate_secret, epoch_secret, next_epoch_secret, nine_secrets, confirmation_tag, membership_tag, exported};
+ghost use Rattle.mls_schedule.specs.Epoch.{joiner_secret, welcome_secret, welcome_key, welcome_nonce, intermediate_secret, epoch_secret, next_epoch_secret, nine_secrets, confirmation_tag, membership_tag, exported};
 
 use crate::ScheduleError;
 use mls_kdf::{HmacKey, Secret, Seed, derive_secret, expand_with_label, extract, hash, hmac};
@@ -39,13 +39,11 @@ impl Model for Epoch {
     ghost invariant = { IsOfEpoch };
 }
 
-/// An epoch with the secrets that lead to it.
+/// An epoch with the secret that leads to it.
 #[derive(Drop)]
 pub struct Start {
     /// What a new member is given, to reach the epoch.
     pub joiner: Secret,
-    /// What the key and the nonce of a Welcome's GroupInfo are made of.
-    pub welcome: Secret,
     /// The epoch.
     pub epoch: Epoch,
 }
@@ -101,11 +99,10 @@ impl Epoch {
 
     /// The epoch after one with this init secret, by a commit with this commit secret. The context is
     /// the new epoch's.
-    #[tactic(auto, unfolding(crate::specs::Epoch::joiner_secret, crate::specs::Epoch::next_welcome, crate::specs::Epoch::next_epoch_secret))]
+    #[tactic(auto, unfolding(crate::specs::Epoch::joiner_secret, crate::specs::Epoch::next_epoch_secret))]
     pub fn next(init: &Secret, commit_secret: &Secret, context: &[u8]) -> Start
         requires { length context.now < 2 ^ 30 }
         ensures joiner { result.joiner ≡ joiner_secret init.now commit_secret.now context.now }
-        ensures welcome { result.welcome ≡ next_welcome init.now commit_secret.now context.now }
         ensures epoch { result.epoch ≡ next_epoch_secret init.now commit_secret.now context.now }
     {
         let joiner = expand_secret(&extract(init, commit_secret), "joiner", context);
@@ -113,34 +110,40 @@ impl Epoch {
     }
 
     /// The epoch that a new member reaches from the joiner secret. The context is that epoch's.
-    #[tactic(auto, unfolding(crate::specs::Epoch::welcome_secret, crate::specs::Epoch::epoch_secret))]
+    #[tactic(auto, unfolding(crate::specs::Epoch::epoch_secret))]
     pub fn from_joiner(joiner: &Secret, context: &[u8]) -> Start
         requires { length context.now < 2 ^ 30 }
         ensures joiner { result.joiner ≡ joiner.now }
-        ensures welcome { result.welcome ≡ welcome_secret joiner.now }
         ensures epoch { result.epoch ≡ epoch_secret joiner.now context.now }
     {
-        let intermediate = intermediate_secret(joiner);
-        let welcome = derive_secret(&intermediate, "welcome");
-        let epoch = expand_secret(&intermediate, "epoch", context);
+        let epoch = expand_secret(&intermediate_secret(joiner), "epoch", context);
         Start {
             joiner: *joiner,
-            welcome,
             epoch: Epoch::first(&epoch),
         }
     }
 
+    /// What the key and the nonce of a Welcome's GroupInfo are made of, from the joiner secret (RFC 9420, 8). Who makes
+    /// or opens no Welcome doesn't need it.
+    #[tactic(auto, unfolding(crate::specs::Epoch::welcome_secret))]
+    pub fn welcome_secret(joiner: &Secret) -> Secret
+        ensures { result ≡ welcome_secret joiner.now }
+    {
+        derive_secret(&intermediate_secret(joiner), "welcome")
+    }
+
     /// The key and the nonce of a Welcome's GroupInfo, from the joiner secret.
-    #[tactic(auto, unfolding(crate::specs::Epoch::welcome_secret, crate::specs::Epoch::welcome_key, crate::specs::Epoch::welcome_nonce))]
+    #[tactic(auto, unfolding(crate::specs::Epoch::welcome_key, crate::specs::Epoch::welcome_nonce))]
     pub fn welcome_key(joiner: &Secret) -> WelcomeKey
         ensures key { result.key ≡ welcome_key joiner.now }
         ensures nonce { result.nonce ≡ welcome_nonce joiner.now }
     {
-        let welcome = derive_secret(&intermediate_secret(joiner), "welcome");
+        let secret = Epoch::welcome_secret(joiner);
+        let welcome = HmacKey::new(&secret);
         let mut key = [0; 16];
-        expand_with_label(&welcome, "key", &[], &mut key).unwrap();
+        welcome.expand_with_label("key", &[], &mut key).unwrap();
         let mut nonce = [0; 12];
-        expand_with_label(&welcome, "nonce", &[], &mut nonce).unwrap();
+        welcome.expand_with_label("nonce", &[], &mut nonce).unwrap();
         WelcomeKey { key, nonce }
     }
 
