@@ -14,10 +14,10 @@ ghost use Rattle.mls_welcome.specs.Entries.{IsSecretsOf, SealsEntries, SpellsSec
 
 use crate::error::WelcomeError;
 use crate::welcome_message::Joiner;
-use mls_kdf::{Secret, Seed};
+use mls_kdf::{HmacKey, Secret};
 use mls_leaf::{Bytes, Codec, KeyPackage, key_package_reference};
 use mls_suite::{Suite, encrypt_with_label};
-use mls_treekem::seal_seed;
+use mls_treekem::seal_seed_of;
 use mls_types::{EncryptedGroupSecrets, GroupSecrets, HpkeCiphertext};
 use std::alloc::{AllocError, Global};
 
@@ -111,14 +111,14 @@ fn entry_for<S: Suite>(
 
 /// What the entries of a Welcome are sealed with.
 #[derive(Clone, Copy)]
-pub(crate) struct Sealer<'a> {
+pub(crate) struct Sealer<'a, 'b> {
     /// The joiner secret of the epoch.
     pub(crate) joiner_secret: &'a Secret,
     /// The seed of the commit.
-    pub(crate) seed: &'a Seed,
+    pub(crate) seed: &'a HmacKey<'b>,
 }
 
-impl Sealer<'_> {
+impl Sealer<'_, '_> {
     /// The entry of a joiner, under seal number n.
     fn entry<S: Suite>(
         &self,
@@ -132,7 +132,7 @@ impl Sealer<'_> {
         ensures { Gives (entry_of S.crypto encrypted_info.now self.now joiner.now n) result }
     {
         let secrets = secrets_with(alloc, self.joiner_secret, joiner.path_secret)?;
-        let rnd = seal_seed(self.seed, n);
+        let rnd = seal_seed_of(self.seed, n);
         entry_for::<S>(alloc, encrypted_info, joiner.key_package, &secrets, &rnd)
     }
 
