@@ -62,6 +62,11 @@ leaf_from c signing group i old hash seed =
     signed_leaf c signing group i
     (unsigned_leaf c (c.public (leaf_key_of c seed)) old.signature_key old.credential (leaf_node_source.Commit hash))
 
+-- a leaf is the committer's new one, with some parent hash and made of some seed
+abbrev pub IsOwnLeaf : Crypto → List ℕ → List ℕ → ℕ → LeafNode → LeafNode → Type 0
+IsOwnLeaf c signing group i old leaf =
+    (hash : List ℕ) × ((seed : List ℕ) × (leaf ≡ leaf_from c signing group i old hash seed))
+
 -- the checks that the committer's new leaf passes (RFC 9420, 7.3)
 abbrev pub leaf_checks : Crypto → List ℕ → List ℕ → ℕ → LeafNode → List ℕ → List ℕ → Result Passed ℕ
 leaf_checks c signing group i old hash seed = replaced_checks c (leaf_from c signing group i old hash seed) old replaced_for.Commit group i

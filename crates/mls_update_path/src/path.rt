@@ -12,8 +12,8 @@ ghost use Rattle.mls_update_path.specs.Parts.{AreAllKeys, ChecksLeaf, IsChain, M
 use crate::context::provisional_bytes;
 use crate::draft::{Draft, make_draft, parent_hash, public_keys};
 use crate::error::PathError;
+use crate::own_leaf::check_own_leaf;
 use mls_candidate::renewed_leaf;
-use mls_checks::{Source, replaced};
 use mls_kdf::{Secret, Seed};
 use mls_leaf::{Bytes, GroupExtensions, Items, LeafNode, LeafSource};
 use mls_public_group::{Edits, PublicGroup};
@@ -65,7 +65,7 @@ fn make_checked_leaf<S: Suite>(
     let group_id = group.context().group_id.as_slice();
     let source = LeafSource::Commit { parent_hash: hash };
     let leaf = renewed_leaf::<S>(alloc, signing, group_id, index, old, source, seed)?;
-    replaced::<S>(alloc, &leaf, old, Source::Commit, group_id, index)?;
+    check_own_leaf::<S>(alloc, signing, &leaf, old, group_id, index)?;
     Ok(leaf)
 }
 
