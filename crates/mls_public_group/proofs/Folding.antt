@@ -1,11 +1,12 @@
 -- The updates, removes and adds of a commit, one proposal after the other.
 use Rattle.std.proofs.Common.{◌≡◌, ℕ, ◌+◌, ◌<◌, ◌≤◌, ◌==◌, nat_eq, nat_le, Bool, true, false, ◌||◌, List, [], ◌∷◌, ◌++◌, length, get_or, drop, Option, Some, None, Result, Ok, Err, refl, sym, ap, ◌∙◌, arith, append-nil, append_assoc, length-append}
 use Rattle.std.proofs.lemmas.Bool.{le-leb, lt-leb}
+use Rattle.std.proofs.lemmas.List.{length-map}
 use Rattle.std.specs.Prelude.{map, if◌then◌else◌}
 use Rattle.std.specs.List.{cons_option, list_any}
 use Rattle.mls_wire.specs.Checks.{Passed, passed, ◌>>◌}
 use Rattle.mls_suite.specs.Crypto.{Crypto}
-use Rattle.mls_tree_model.specs.Sets.{has, is_distinct}
+use Rattle.mls_tree_model.specs.Sets.{has, same_bytes, count, is_distinct}
 use Rattle.mls_wire.specs.Reading.{◌>>=◌}
 use Rattle.mls_wire.specs.Laws.{ok_is}
 use Rattle.mls_leaf.specs.declared.extension.Extension.{Extension}
@@ -439,3 +440,37 @@ adds_end t front = ap (λ xs. Ok (made t xs)) (append-nil front)
 pub adds_alone : (r : Result Edits ℕ) → prepend_added [] r ≡ r
 adds_alone (Ok e) = refl
 adds_alone (Err n) = refl
+
+-- ---- how many KeyPackages are added
+
+-- what one proposal adds
+module _ (u v : Used) (seen : v ≡ u) where
+  pub one_add : (x : KeyPackage) → v.proposal ≡ Add x → length (adds (u ∷ [])) ≡ 1
+  one_add x is = ap (λ (w : Used). length (adds (w ∷ []))) (sym seen) ∙ ap length (add_is v x is)
+
+  pub no_adds : ((x : KeyPackage) → v.proposal ≡ Add x → ⊥) → length (adds (u ∷ [])) ≡ 0
+  no_adds other = ap (λ (w : Used). length (adds (w ∷ []))) (sym seen) ∙ ap length (add_isnt v other)
+
+-- those that are counted, and those to come
+pub adds_more : (us : List Used) (k : ℕ) (u : Used) → k < length us → u ≡ get_or us k u → length (adds (drop k us)) ≡ length (adds (u ∷ [])) + length (adds (drop (k + 1) us))
+adds_more us k u lt at =
+    ap (λ (l : List Used). length (adds l)) (here us k u lt at)
+    ∙ ap length (adds_split u (drop (k + 1) us))
+    ∙ length-append (adds (u ∷ [])) (adds (drop (k + 1) us))
+
+adds_none : length (adds []) ≡ 0
+unfolding adds
+adds_none = refl
+
+pub adds_over : (us : List Used) (k : ℕ) → length us ≤ k → length (adds (drop k us)) ≡ 0
+adds_over us k le = ap (λ (l : List Used). length (adds l)) (over us k le) ∙ adds_none
+
+distinct_below : (xs : List (List ℕ)) → length xs < 2 → is_distinct same_bytes xs ≡ true
+unfolding is_distinct count
+distinct_below [] lt = refl
+distinct_below (x ∷ []) lt = refl
+distinct_below (x ∷ (y ∷ ys)) lt = absurd (omega (arith, lt))
+
+-- fewer than two have no reference twice
+pub few_distinct : (used : List Used) (n : ℕ) → n ≡ length (adds used) → n < 2 → is_distinct same_bytes (map package_reference (adds used)) ≡ true
+few_distinct used n counted few = distinct_below (map package_reference (adds used)) (omega (arith, length-map (adds used) package_reference, counted, few))
