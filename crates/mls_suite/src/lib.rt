@@ -13,8 +13,8 @@ mod labels;
 mod practice;
 
 pub use labels::{
-    decrypt_with_label, encrypt_with_label, opened_as_sealed, sealed_where_fit, sign_with_label,
-    signature_is_short, verified_as_signed, verify_with_label,
+    content_with_label, decrypt_with_label, encrypt_with_label, opened_as_sealed, sealed_where_fit,
+    sign_with_label, signature_is_short, verified_as_signed, verify_with_label,
 };
 pub use practice::Glass;
 

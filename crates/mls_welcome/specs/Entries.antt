@@ -8,7 +8,9 @@ use Rattle.mls_types.specs.declared.group_info.GroupInfo.{GroupInfo}
 use Rattle.mls_types.specs.declared.welcome.EncryptedGroupSecrets.{EncryptedGroupSecrets}
 use Rattle.mls_types.specs.declared.welcome.GroupSecrets.{GroupSecrets}
 use Rattle.mls_suite.specs.Crypto.{Crypto}
+use Rattle.mls_suite.specs.LabelCalls.{EncryptsWithLabel}
 use Rattle.mls_suite.specs.Labels.{sign_with_label}
+use Rattle.mls_suite.specs.declared.Sealed.{Sealed}
 use Rattle.mls_treekem_model.specs.Seeds.{seal_seed}
 use Rattle.mls_model.specs.PublicState.{PublicState}
 use Rattle.mls_model.specs.Welcome.{secrets_with, entry_for, entries_for, unsigned_info, signed_info, welcome_message}
@@ -48,6 +50,13 @@ IsSecretsOf joiner path secrets = secrets ≡ record { joiner_secret = joiner; p
 -- The call answers a joiner's GroupSecrets, spelled, unless memory was refused.
 abbrev pub SpellsSecrets : List ℕ → Option (List ℕ) → Result (Vec ℕ) WelcomeError → Type 0
 SpellsSecrets joiner path result = GivesBytes (Ok (secrets_with joiner path)) result
+
+-- The call seals a text to a public key under an encrypted GroupInfo, or answers None where the key
+-- isn't fit, unless memory was refused.
+abbrev pub SealsUnder : {E : Type 0} → Crypto → List ℕ → List ℕ → List ℕ → List ℕ →
+    Result (Option Sealed) E → Type 0
+SealsUnder c pk encrypted_info pt rnd result =
+    EncryptsWithLabel c pk (codes "Welcome") encrypted_info pt rnd result
 
 -- the entry of a joiner, under seal number n
 abbrev pub entry_of : Crypto → List ℕ → Sealer → Joiner → ℕ → Result EncryptedGroupSecrets ℕ
