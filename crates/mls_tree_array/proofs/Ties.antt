@@ -118,6 +118,14 @@ module _ (h m : ℕ) (xs : List (Option Node)) (n : Option Node) (parts : InPart
 
 -- ---- a root
 
+or_true : (x : Bool) → (x || true) ≡ true
+or_true true = refl
+or_true false = refl
+
+or_false : (x : Bool) → (x || false) ≡ x
+or_false true = refl
+or_false false = refl
+
 own : Term → Option Parent
 own (Leaf v) = None
 own (Branch c l r) = c
@@ -134,13 +142,13 @@ module _ (h m : ℕ) (xs : List (Option Node)) (n : Option Node) (parts : InPart
   unfolding is_parent_hash_valid
   full_root p some = ap (λ d. parent_passes is_parent_hash_valid b d l r) (some ∙ same_root)
 
-  pub tied_root : (p : Parent) (v : Bool) → Some p ≡ parent_in n → v ≡ has_witness p b l (b + width l) r → v ≡ true → true ≡ parent_passes is_parent_hash_valid b c l r
-  tied_root p v some left yes_left =
-      sym (ap (λ w. w || has_witness p (b + width l) r b l) (sym left ∙ yes_left)) ∙ full_root p some
+  pub tied_root : (p : Parent) (v : Bool) → Some p ≡ parent_in n → v ≡ has_witness p (b + width l) r b l → v ≡ true → true ≡ parent_passes is_parent_hash_valid b c l r
+  tied_root p v some right yes_right =
+      sym (ap (λ w. has_witness p b l (b + width l) r || w) (sym right ∙ yes_right) ∙ or_true (has_witness p b l (b + width l) r)) ∙ full_root p some
 
-  pub other_root : (p : Parent) (v w : Bool) → Some p ≡ parent_in n → v ≡ has_witness p b l (b + width l) r → v ≡ false → w ≡ has_witness p (b + width l) r b l → w ≡ parent_passes is_parent_hash_valid b c l r
-  other_root p v w some left no_left right =
-      right ∙ sym (ap (λ x. x || has_witness p (b + width l) r b l) (sym left ∙ no_left)) ∙ full_root p some
+  pub other_root : (p : Parent) (v w : Bool) → Some p ≡ parent_in n → v ≡ has_witness p (b + width l) r b l → v ≡ false → w ≡ has_witness p b l (b + width l) r → w ≡ parent_passes is_parent_hash_valid b c l r
+  other_root p v w some right no_right left =
+      left ∙ sym (ap (λ x. has_witness p b l (b + width l) r || x) (sym right ∙ no_right) ∙ or_false (has_witness p b l (b + width l) r)) ∙ full_root p some
 
 -- ---- each parent, by the root and then the sides
 

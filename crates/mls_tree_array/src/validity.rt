@@ -142,7 +142,8 @@ fn has_right_witness(
     }
 }
 
-/// Whether the root of a tree above a leaf is parent-hash valid, where it isn't blank.
+/// Whether the root of a tree above a leaf is parent-hash valid, where it isn't blank. The right side is tried first: leaves
+/// are taken from left to right, so a parent's last committer is mostly found there, and one hash is enough.
 fn is_root_valid(
     nodes: &[Slot],
     hashes: &[Option<Hash>],
@@ -161,10 +162,10 @@ fn is_root_valid(
     let middle = middle_of(nodes.len(), height);
     match parent_in(&nodes[middle]) {
         Some(parent) => {
-            if has_left_witness(parent, nodes, hashes, height, first, found)? {
+            if has_right_witness(parent, nodes, hashes, height, first, found)? {
                 return Ok(true);
             }
-            has_right_witness(parent, nodes, hashes, height, first, found)
+            has_left_witness(parent, nodes, hashes, height, first, found)
         }
         None => Ok(true),
     }
