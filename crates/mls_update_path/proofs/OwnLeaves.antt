@@ -13,7 +13,7 @@ use Rattle.mls_checks.specs.Leaf.{is_signed, is_capable, is_of_source, has_ident
 use Rattle.mls_checks.specs.Checks.{replaced_checks}
 use Rattle.mls_checks.specs.declared.checks.Source.TheVariants as replaced_for
 use Rattle.mls_model.specs.Candidate.{made_capabilities, unsigned_leaf, signed_leaf}
-use Rattle.mls_update_path.specs.Parts.{leaf_from, IsOwnLeaf}
+use Rattle.mls_update_path.specs.Parts.{leaf_by_key, IsOwnLeaf}
 
 bytes_same : (xs : List ℕ) → bytes_eq xs xs ≡ true
 bytes_same xs = (bytes_eq-Decides xs xs).1 refl
@@ -28,20 +28,20 @@ module _ (c : Crypto) (laws : Lawful c) (signing group : List ℕ) (i : ℕ) (ol
   verifies_by : (key content : List ℕ) → c.sig_public signing ≡ key → verify_with_label c key (codes "LeafNodeTBS") content (sign_with_label c signing (codes "LeafNodeTBS") content) ≡ true
   verifies_by key content e = subst (λ k. verify_with_label c k (codes "LeafNodeTBS") content (sign_with_label c signing (codes "LeafNodeTBS") content) ≡ true) e (verifies_signed c laws signing (codes "LeafNodeTBS") content)
 
-  module _ (hash seed : List ℕ) where
-    source_is : is_of_source replaced_for.Commit (leaf_from c signing group i old hash seed).source ≡ true
+  module _ (hash key : List ℕ) where
+    source_is : is_of_source replaced_for.Commit (leaf_by_key c signing group i old hash key).source ≡ true
     unfolding signed_leaf unsigned_leaf
     source_is = refl
 
-    signed : is_signed c group i (leaf_from c signing group i old hash seed) ≡ true
+    signed : is_signed c group i (leaf_by_key c signing group i old hash key) ≡ true
     unfolding is_signed signed_leaf unsigned_leaf leaf_content leaf_node_tbs
     signed = verifies_by old.signature_key _ own
 
-    capable : is_capable c.number (leaf_from c signing group i old hash seed) ≡ true
+    capable : is_capable c.number (leaf_by_key c signing group i old hash key) ≡ true
     unfolding is_capable signed_leaf unsigned_leaf made_capabilities
     capable = let e : (c.number == c.number) ≡ true = eq-eqb _ _ refl in rw e refl
 
-    same_identity : has_identity_of old (leaf_from c signing group i old hash seed) ≡ true
+    same_identity : has_identity_of old (leaf_by_key c signing group i old hash key) ≡ true
     unfolding has_identity_of signed_leaf unsigned_leaf
     same_identity = rw (bytes_same old.signature_key, bytes_same old.credential.identity) refl
 

@@ -56,20 +56,27 @@ AreKeysOn c t i seed keys = keys_on t keys ≡ private_keys c t i seed
 abbrev pub AreAllKeys : Crypto → Term → ℕ → List ℕ → PrivateKeys → Type 0
 AreAllKeys c t i seed keys = all_keys keys ≡ private_keys c t i seed
 
--- the committer's new leaf with a parent hash (RFC 9420, 7.2)
+-- the committer's new leaf with a parent hash and an encryption key (RFC 9420, 7.2)
+abbrev pub leaf_by_key : Crypto → List ℕ → List ℕ → ℕ → LeafNode → List ℕ → List ℕ →
+    LeafNode
+leaf_by_key c signing group i old hash key =
+    signed_leaf c signing group i
+    (unsigned_leaf c key old.signature_key old.credential (leaf_node_source.Commit hash))
+
+-- the committer's new leaf with a parent hash, made of a seed (RFC 9420, 7.2)
 abbrev pub leaf_from : Crypto → List ℕ → List ℕ → ℕ → LeafNode → List ℕ → List ℕ → LeafNode
 leaf_from c signing group i old hash seed =
-    signed_leaf c signing group i
-    (unsigned_leaf c (c.public (leaf_key_of c seed)) old.signature_key old.credential (leaf_node_source.Commit hash))
+    leaf_by_key c signing group i old hash (c.public (leaf_key_of c seed))
 
--- a leaf is the committer's new one, with some parent hash and made of some seed
+-- a leaf is the committer's new one, with some parent hash and some encryption key
 abbrev pub IsOwnLeaf : Crypto → List ℕ → List ℕ → ℕ → LeafNode → LeafNode → Type 0
 IsOwnLeaf c signing group i old leaf =
-    (hash : List ℕ) × ((seed : List ℕ) × (leaf ≡ leaf_from c signing group i old hash seed))
+    (hash : List ℕ) × ((key : List ℕ) × (leaf ≡ leaf_by_key c signing group i old hash key))
 
 -- the checks that the committer's new leaf passes (RFC 9420, 7.3)
 abbrev pub leaf_checks : Crypto → List ℕ → List ℕ → ℕ → LeafNode → List ℕ → List ℕ → Result Passed ℕ
-leaf_checks c signing group i old hash seed = replaced_checks c (leaf_from c signing group i old hash seed) old replaced_for.Commit group i
+leaf_checks c signing group i old hash key =
+    replaced_checks c (leaf_by_key c signing group i old hash key) old replaced_for.Commit group i
 
 -- its new leaf, whose parent hash is that of these keys (RFC 9420, 7.2 and 7.9)
 unfoldable pub leaf_with : Crypto → List ℕ → List ℕ → ℕ → Term → LeafNode → List ℕ → LeafNode
@@ -94,18 +101,19 @@ path_of c p signing i list e seed = do
     climb = climb_make c (way 0 e.tree i) (path_seed seed) (leaf_key_of c seed);
   })
 
--- The leaf that a call answers is the committer's new one with a parent hash.
+-- The leaf that a call answers is the committer's new one with a parent hash and an encryption key.
 abbrev pub MakesLeaf : {E : Type 0} → Crypto → List ℕ → PublicState → ℕ → LeafNode → List ℕ → List ℕ →
     Result LeafNode E → Type 0
-MakesLeaf c signing p i old hash seed result =
-    IfOk result (λ leaf. leaf ≡ leaf_from c signing p.context.group_id i old hash seed)
+MakesLeaf c signing p i old hash key result =
+    IfOk result (λ leaf. leaf ≡ leaf_by_key c signing p.context.group_id i old hash key)
 
 -- The committer's new leaf passes its checks, or the call refuses with the number of the first that fails, memory
 -- aside.
 abbrev pub ChecksLeaf : Crypto → List ℕ → PublicState → ℕ → LeafNode → List ℕ → List ℕ →
     Result LeafNode PathError → Type 0
-ChecksLeaf c signing p i old hash seed result =
-    Answers (λ _. passed) number_of (leaf_checks c signing p.context.group_id i old hash seed) result
+ChecksLeaf c signing p i old hash key result =
+    Answers (λ _. passed) number_of (leaf_checks c signing p.context.group_id i old hash key)
+    result
 
 -- The call merges a leaf and keys into a tree, or refuses with the number of what fails, memory aside (RFC 9420, 7.5).
 abbrev pub MergesPath : Term → ℕ → LeafNode → List (List ℕ) → Result Merged PathError → Type 0

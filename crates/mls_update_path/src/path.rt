@@ -3,6 +3,7 @@
 ghost use Rattle.std.specs.Prelude.{◌≡◌, ◌+◌, ◌<◌, ◌≤◌, ◌^◌, length, None, IfOk};
 ghost use Rattle.mls_leaf.specs.GroupExtensions.{group_extensions};
 ghost use Rattle.mls_leaf.specs.Leaf.{leaf_node};
+ghost use Rattle.mls_candidate.specs.Leaves.{IsPublicKey};
 ghost use Rattle.mls_tree.specs.Tree.{term};
 ghost use Rattle.mls_public_group.specs.Short.{IsBelow, HasLeavesBelow, IsShortContext, StaysShort};
 ghost use Rattle.mls_treekem_model.specs.Height.{HasFollowed};
@@ -13,7 +14,7 @@ use crate::context::provisional_bytes;
 use crate::draft::{Draft, make_draft, parent_hash, public_keys};
 use crate::error::PathError;
 use crate::own_leaf::check_own_leaf;
-use mls_candidate::renewed_leaf;
+use mls_candidate::{leaf_pair, renewed_leaf_with_key};
 use mls_kdf::{Secret, Seed};
 use mls_leaf::{Bytes, GroupExtensions, Items, LeafNode, LeafSource};
 use mls_public_group::{Edits, PublicGroup};
@@ -45,7 +46,8 @@ struct Merged {
     keys: PrivatePath,
 }
 
-/// The new leaf of the member at leaf `index`, with this parent hash, where it passes its checks (50 to 54).
+/// The new leaf of the member at leaf `index`, with this parent hash and encryption key, where it passes its checks (50
+/// to 54).
 fn make_checked_leaf<S: Suite>(
     alloc: Global,
     group: &PublicGroup,
@@ -53,18 +55,19 @@ fn make_checked_leaf<S: Suite>(
     index: u32,
     old: &LeafNode,
     hash: Bytes,
-    seed: &Seed,
+    key: Vec<u8>,
 ) -> Result<LeafNode, PathError>
     requires context { IsShortContext group.now.context }
     requires old { IsBelow (2 ^ 27) leaf_node old.now }
     requires hash { length hash ≤ 32 }
-    ensures leaf { MakesLeaf S.crypto signing.now group.now index old.now hash seed.now result }
+    requires key { IsPublicKey S.crypto key.items }
+    ensures leaf { MakesLeaf S.crypto signing.now group.now index old.now hash key.items result }
     ensures below { IfOk result (λ leaf. IsBelow (2 ^ 28) leaf_node leaf) }
-    ensures checks { ChecksLeaf S.crypto signing.now group.now index old.now hash seed.now result }
+    ensures checks { ChecksLeaf S.crypto signing.now group.now index old.now hash key.items result }
 {
     let group_id = group.context().group_id.as_slice();
     let source = LeafSource::Commit { parent_hash: hash };
-    let leaf = renewed_leaf::<S>(alloc, signing, group_id, index, old, source, seed)?;
+    let leaf = renewed_leaf_with_key::<S>(alloc, signing, group_id, index, old, source, key)?;
     check_own_leaf::<S>(alloc, signing, &leaf, old, group_id, index)?;
     Ok(leaf)
 }
@@ -118,11 +121,12 @@ fn merge_new_path<S: Suite>(
     let Some(old) = group.tree().leaf(index) else {
         return Err(PathError::Tree(TreeError::NoSuchLeaf));
     };
-    let made = make_draft::<S>(alloc, edited, index, seed)?;
+    let pair = leaf_pair::<S>(alloc, seed)?;
+    let made = make_draft::<S>(alloc, edited, index, seed, &pair.sk)?;
     let public = public_keys(alloc, &made.secrets)?;
     let mut tree = edited.clone()?;
     let hash = parent_hash(&mut tree, index, &public)?;
-    let leaf = make_checked_leaf::<S>(alloc, group, signing, index, old, hash, seed)?;
+    let leaf = make_checked_leaf::<S>(alloc, group, signing, index, old, hash, pair.pk)?;
     merge_leaf_and_keys(index, tree, leaf, public, made)
 }
 
