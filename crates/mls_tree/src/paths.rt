@@ -81,7 +81,7 @@ pub(crate) fn merge_with_indexes(
 }
 
 /// Whether the leaf's source is a commit with this parent hash.
-fn has_parent_hash(leaf: &LeafNode, hash: &[u8]) -> bool
+pub(crate) fn has_parent_hash(leaf: &LeafNode, hash: &[u8]) -> bool
     ensures { result ≡ is_some_bytes (source_hash leaf.now.source) hash.now }
 {
     match &leaf.source {
@@ -108,7 +108,7 @@ impl PublicTree {
     }
 
     /// The parents over leaf i, the highest first, and the parent hash that reaches it.
-    fn merged_path(&self, i: u32, keys: Vec<Bytes>) -> Result<MergedPath, AllocError>
+    pub(crate) fn merged_path(&self, i: u32, keys: Vec<Bytes>) -> Result<MergedPath, AllocError>
         requires { self.now.kept ≡ hashes_of 0 (term self.now) }
         ensures parents { IfOk result (HasParents 0 (term self.now) i keys.items) }
         ensures hash { IfOk result (HasPathHash (term self.now) i keys.items) }
@@ -120,7 +120,12 @@ impl PublicTree {
     }
 
     /// Whether the merged tree has no encryption key twice. Takes memory only where the tree has one twice.
-    fn keys_differ(&self, i: u32, leaf: &LeafNode, keys: &[Bytes]) -> Result<bool, AllocError>
+    pub(crate) fn keys_differ(
+        &self,
+        i: u32,
+        leaf: &LeafNode,
+        keys: &[Bytes],
+    ) -> Result<bool, AllocError>
         requires { path_checks (term self.now) i (length keys.now) ≡ Ok passed }
         ensures { IfOk result (λ b. b ≡ keys_differ (term self.now) i leaf.now keys.now) }
     {
@@ -131,7 +136,7 @@ impl PublicTree {
     }
 
     /// Refuses a leaf index at which no member is, and then a number of keys that isn't that of the filtered path.
-    fn require_path(&self, i: u32, count: usize) -> Result<(), TreeError>
+    pub(crate) fn require_path(&self, i: u32, count: usize) -> Result<(), TreeError>
         ensures { PassesOutright (path_checks (term self.now) i count) result }
     {
         if self.leaf(i).is_none() {

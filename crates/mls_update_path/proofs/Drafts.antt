@@ -3,15 +3,14 @@ use Rattle.std.proofs.Common.{◌≡◌, ℕ, suc, ◌^◌, ◌<◌, ◌≤◌, 
 use Rattle.std.proofs.lemmas.Bool.{cases_lt}
 use Rattle.std.proofs.lemmas.List.{length-reverse, length-map}
 use Rattle.std.proofs.Math.Pow.{pow_mono}
-use Rattle.mls_wire.proofs.CheckLaws.{bind_ok, then_ok}
+use Rattle.mls_wire.proofs.CheckLaws.{bind_ok}
 use Rattle.mls_leaf.specs.Parent.{Parent}
 use Rattle.mls_leaf.specs.declared.leaf.LeafNode.{LeafNode}
 use Rattle.mls_suite.specs.Crypto.{Crypto}
 use Rattle.mls_tree_model.specs.Term.{Term, width, height, leaf_at}
 use Rattle.mls_tree_model.specs.Way.{Step, way, filtered_way, filtered_path, path_length}
-use Rattle.mls_tree_model.specs.Merge.{merge_path, path_parent_hash}
+use Rattle.mls_tree_model.specs.Merge.{merge_path}
 use Rattle.mls_tree.specs.Tree.{Tree, term, member_at, path_answer}
-use Rattle.mls_tree.specs.Paths.{path_checks, path_hash_answer}
 use Rattle.mls_tree.proofs.Perfect.{perfect, width_is}
 use Rattle.mls_treekem_model.specs.Follow.{key_above, keys_on_way, follow_edit}
 use Rattle.mls_treekem_model.specs.Height.{keys_on, HasFollowed}
@@ -67,12 +66,6 @@ module _ (c : Crypto) (t : Tree) (i : ℕ) (start start' : List ℕ) (xs ys : Li
       ∙ k
       ∙ ap (λ j. made_keys c (way 0 (term t) j) start' old.own) at
       ∙ ap₂ (made_keys c (way 0 (term t) i)) begins sk_is
-
--- ---- the parent hash
-
-pub hash_is : (t : Term) (i : ℕ) (keys : List (List ℕ)) (h : List ℕ) → path_hash_answer t i keys ≡ Ok h → h ≡ path_parent_hash t i keys
-unfolding path_hash_answer
-hash_is t i keys h e = let s = then_ok (path_checks t i (length keys)) (Ok (path_parent_hash t i keys)) h e in let f = s.1 in cc
 
 -- ---- keys that are followed onto the tree with the path
 

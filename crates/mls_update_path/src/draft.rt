@@ -1,7 +1,7 @@
 //! The secrets and keys of a path.
 
 ghost use Rattle.std.specs.Prelude.{◌≡◌, IfOk};
-ghost use Rattle.mls_tree_model.specs.Merge.{path_parent_hash};
+ghost use Rattle.mls_tree.specs.PathDraft.{IsDraftOf};
 ghost use Rattle.mls_tree.specs.Tree.{term};
 ghost use Rattle.mls_treekem.specs.Secrets.{public_keys};
 ghost use Rattle.mls_model.specs.Candidate.{leaf_key_of};
@@ -10,7 +10,7 @@ ghost use Rattle.mls_update_path.specs.Parts.{IsChain, AreKeysOn};
 use mls_kdf::{Secret, Seed};
 use mls_leaf::Bytes;
 use mls_suite::{OutOfMemory, Suite};
-use mls_tree::PublicTree;
+use mls_tree::{PathDraft, PublicTree};
 use mls_treekem::{PathSecrets, PrivatePath, path_seed};
 use std::alloc::{AllocError, Global};
 
@@ -59,19 +59,19 @@ pub(crate) fn public_keys(alloc: Global, secrets: &PathSecrets) -> Result<Vec<By
     Ok(keys)
 }
 
-/// The parent hash that the leaf of a path with these keys must have. There is a member, and there are as many keys as
-/// its filtered path has parents, so only memory can be wanting.
-pub(crate) fn parent_hash(
+/// A path with these keys before its leaf is signed. There is a member, and there are as many keys as its filtered path
+/// has parents, so only memory can be wanting.
+pub(crate) fn draft_path(
     tree: &mut PublicTree,
     index: u32,
-    keys: &[Bytes],
-) -> Result<Bytes, OutOfMemory>
-    ensures hash { IfOk result (λ hash. hash ≡ path_parent_hash (term tree.old) index keys.now) }
+    keys: Vec<Bytes>,
+) -> Result<PathDraft, OutOfMemory>
+    ensures draft { IfOk result (IsDraftOf (term tree.old) index keys.items) }
     ensures same { term tree.new ≡ term tree.old }
 {
-    match tree.path_parent_hash(index, keys) {
-        Ok(hash) => Ok(Bytes::from_vec(hash)),
-        // Want of memory: a member is there, and a key for each node; only the bytes can fail.
+    match tree.draft_path(index, keys) {
+        Ok(draft) => Ok(draft),
+        // Want of memory: a member is there, and a key for each node; only the lists can fail.
         Err(_) => Err(AllocError),
     }
 }
