@@ -44,15 +44,17 @@ fn print_found(
 
 /// A digest of the ten secrets of an epoch.
 fn print_epoch(rt: &impl Print, alloc: Global, part: &str, epoch: &Epoch) -> Result<()> {
+    let external = epoch.external_secret();
+    let resumption = epoch.resumption_psk();
     let secrets: [&[u8]; 10] = [
         epoch.epoch_secret(),
         epoch.sender_data_secret(),
         epoch.encryption_secret(),
         epoch.exporter_secret(),
-        epoch.external_secret(),
+        &external,
         epoch.confirmation_key(),
         epoch.membership_key(),
-        epoch.resumption_psk(),
+        &resumption,
         epoch.epoch_authenticator(),
         epoch.init_secret(),
     ];

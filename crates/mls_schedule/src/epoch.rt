@@ -11,17 +11,16 @@ use crate::ScheduleError;
 use mls_kdf::{HmacKey, Secret, Seed, derive_secret, expand_with_label, extract, hash, hmac};
 use std::marker::Model;
 
-/// The secrets of one epoch: the epoch secret, and the nine that are made of it.
+/// The secrets of one epoch: the epoch secret, and the nine that are made of it. The external secret and that for
+/// resumption, which no call of a member needs, are made where they are asked for.
 #[derive(Drop)]
 pub struct Epoch {
     epoch: Secret,
     sender_data: Secret,
     encryption: Secret,
     exporter: Secret,
-    external: Secret,
     confirmation: Secret,
     membership: Secret,
-    resumption: Secret,
     authenticator: Secret,
     init: Secret,
 }
@@ -78,7 +77,7 @@ fn intermediate_secret(joiner: &Secret) -> Secret
 
 impl Epoch {
     /// The epoch with this epoch secret, as epoch 0 is made of its creator's seed.
-    #[tactic(auto, unfolding(crate::specs::Epoch::sender_data_secret, crate::specs::Epoch::encryption_secret, crate::specs::Epoch::exporter_secret, crate::specs::Epoch::external_secret, crate::specs::Epoch::confirmation_key, crate::specs::Epoch::membership_key, crate::specs::Epoch::resumption_psk, crate::specs::Epoch::epoch_authenticator, crate::specs::Epoch::init_secret))]
+    #[tactic(auto, unfolding(crate::specs::Epoch::sender_data_secret, crate::specs::Epoch::encryption_secret, crate::specs::Epoch::exporter_secret, crate::specs::Epoch::confirmation_key, crate::specs::Epoch::membership_key, crate::specs::Epoch::epoch_authenticator, crate::specs::Epoch::init_secret))]
     pub fn first(seed: &Seed) -> Epoch
         ensures { result ≡ seed.now }
     {
@@ -88,10 +87,8 @@ impl Epoch {
             sender_data: key.derive_secret("sender data"),
             encryption: key.derive_secret("encryption"),
             exporter: key.derive_secret("exporter"),
-            external: key.derive_secret("external"),
             confirmation: key.derive_secret("confirm"),
             membership: key.derive_secret("membership"),
-            resumption: key.derive_secret("resumption"),
             authenticator: key.derive_secret("authentication"),
             init: key.derive_secret("init"),
         }
@@ -175,11 +172,12 @@ impl Epoch {
         &self.exporter
     }
 
-    /// The secret of external commits.
-    pub fn external_secret(&self) -> &Secret
-        ensures { result.now ≡ (nine_secrets self.now).external }
+    /// The secret of external commits. It is made by each call.
+    #[tactic(auto, unfolding(crate::specs::Epoch::external_secret))]
+    pub fn external_secret(&self) -> Secret
+        ensures { result ≡ (nine_secrets self.now).external }
     {
-        &self.external
+        derive_secret(&self.epoch, "external")
     }
 
     /// The key of confirmation tags.
@@ -196,11 +194,12 @@ impl Epoch {
         &self.membership
     }
 
-    /// The secret for resumption.
-    pub fn resumption_psk(&self) -> &Secret
-        ensures { result.now ≡ (nine_secrets self.now).resumption }
+    /// The secret for resumption. It is made by each call.
+    #[tactic(auto, unfolding(crate::specs::Epoch::resumption_psk))]
+    pub fn resumption_psk(&self) -> Secret
+        ensures { result ≡ (nine_secrets self.now).resumption }
     {
-        &self.resumption
+        derive_secret(&self.epoch, "resumption")
     }
 
     /// What members compare to see that they agree.
