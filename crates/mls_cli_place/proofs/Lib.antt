@@ -4,3 +4,4 @@ pub mod Items
 pub mod Members
 pub mod Repeats
 pub mod Short
+pub mod Sides

@@ -17,14 +17,18 @@ use Rattle.mls_types.specs.declared.message.MlsMessage.{MlsMessage}
 use Rattle.mls_types.specs.declared.message.MlsMessage.TheVariants as message
 use Rattle.mls_cli_place.specs.declared.breach.Rule.{Rule}
 use Rattle.mls_cli_place.specs.declared.breach.Rule.TheVariants as rule
+use Rattle.mls_cli_place.specs.declared.parents.ParentRule.TheVariants as parent
 use Rattle.mls_cli_place.specs.declared.tree_place.TreePlace.{TreePlace}
 use Rattle.mls_cli_place.specs.declared.tree_place.TreePlace.TheVariants as tree
+use Rattle.mls_cli_place.specs.Parents.{first_sent}
 use Rattle.mls_cli_place.specs.TreePlace.{IsFirstFailing, has_new_key, leaf_is_capable, leaf_is_signed, node_is_fit, node_stands}
 
 -- the rule whose breach is refused with this number: the others are of whole trees, or of no tree
 abbrev pub rule_of : ℕ → Option Rule
 rule_of n =
     if n == 20 then Some rule.Places
+    else if n == 23 then Some rule.Lists
+    else if n == 24 then Some rule.Hashes
     else if n == 25 then Some rule.Keys
     else if n == 26 then Some rule.Clients
     else if n == 51 then Some rule.Signatures
@@ -51,6 +55,8 @@ MemberBreach c group signed (Some t) found =
 -- of the nodes that are sent
 abbrev pub IsBreach : Crypto → List ℕ → List (Option Node) → Rule → Option TreePlace → Type 0
 IsBreach c group xs rule.Places found = IsFirstPlace tree.Node (node_stands xs) (length xs) found
+IsBreach c group xs rule.Lists found = found ≡ option_map tree.Node (first_sent parent.Lists xs)
+IsBreach c group xs rule.Hashes found = found ≡ option_map tree.Node (first_sent parent.Hashes xs)
 IsBreach c group xs rule.Keys found = IsFirstPlace tree.Node (has_new_key Encryption xs) (length xs) found
 IsBreach c group xs rule.Clients found = IsFirstPlace leaf_below (has_new_key Signature xs) (length xs) found
 IsBreach c group xs rule.Signatures found = MemberBreach c group true (result_ok (from_nodes max_leaves xs)) found

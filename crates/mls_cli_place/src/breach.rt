@@ -10,6 +10,7 @@ ghost use Rattle.mls_types.specs.GroupInfo.{ratchet_tree};
 ghost use Rattle.mls_cli_place.specs.Breach.{FindsBreach, IsBreach, MemberBreach, leaf_below, rule_of};
 ghost use Rattle.mls_cli_place.specs.declared.tree_place.TreePlace.TheVariants as tree;
 
+use crate::parents::{ParentRule, first_wrong_parent};
 use crate::repeats::first_repeated;
 use crate::rules::{first_incapable, first_misplaced, first_unfit, first_unsigned};
 use crate::tree_place::TreePlace;
@@ -24,6 +25,10 @@ use std::alloc::{AllocError, Global};
 pub(crate) enum Rule {
     /// Leaves stand at even places, parents at odd ones.
     Places,
+    /// A parent lists only leaves that it may list.
+    Lists,
+    /// A parent is parent-hash valid.
+    Hashes,
     /// No two nodes have one encryption key.
     Keys,
     /// No two members have one signature key.
@@ -42,6 +47,8 @@ pub(crate) fn rule_of(number: u8) -> Option<Rule>
 {
     match number {
         20 => Some(Rule::Places),
+        23 => Some(Rule::Lists),
+        24 => Some(Rule::Hashes),
         25 => Some(Rule::Keys),
         26 => Some(Rule::Clients),
         51 => Some(Rule::Signatures),
@@ -147,6 +154,14 @@ pub(crate) fn breach_of_rule<S: Suite>(
     match rule {
         Rule::Places => Ok(at_node(first_misplaced(nodes.as_slice()))),
         Rule::KeyForms => Ok(at_node(first_unfit::<S>(nodes.as_slice()))),
+        Rule::Lists => {
+            let found = first_wrong_parent(alloc, ParentRule::Lists, nodes.as_slice())?;
+            Ok(at_node(found))
+        }
+        Rule::Hashes => {
+            let found = first_wrong_parent(alloc, ParentRule::Hashes, nodes.as_slice())?;
+            Ok(at_node(found))
+        }
         Rule::Keys => {
             let found = first_repeated(alloc, KeyKind::Encryption, nodes.as_slice())?;
             Ok(at_node(found))
