@@ -5,7 +5,7 @@ use Rattle.serde_json.specs.Data.{Data}
 use Rattle.mls_cli_json.specs.HexText.{hex_at, seed_at}
 use Rattle.mls_cli_json.specs.Json.{◌>>=◌, bool_at, max_u32, number_at, text_at, text_if_any, whole_at}
 use Rattle.mls_cli_recording.specs.Calls.{call}
-use Rattle.mls_cli_recording.specs.Recording.{action_by, call_by, candidate_in, commit_in, commit_items_at, create_in, deliver_all_in, deliver_in, drop_pending_in, event_in, extensions_at, has_keys, join_in, propose_add_in, propose_extensions_in, propose_remove_in, propose_update_in, recorded_in, recorded_with, source_at}
+use Rattle.mls_cli_recording.specs.Recording.{action_by, call_by, candidate_in, commit_in, commit_items_at, create_in, deliver_all_in, deliver_in, drop_pending_in, extensions_at, has_keys, join_in, propose_add_in, propose_extensions_in, propose_remove_in, propose_update_in, recorded_in, recorded_with, source_at}
 use Rattle.mls_cli_json_place.specs.declared.key.Key.TheVariants as key
 use Rattle.mls_cli_json_place.specs.Events.{action_wrong, call_wrong, candidate_wrong, commit_wrong, create_wrong, deliver_all_wrong, deliver_wrong, drop_pending_wrong, event_wrong, join_wrong, propose_add_wrong, propose_extensions_wrong, propose_remove_wrong, propose_update_wrong, wrong_with}
 use Rattle.mls_cli_json_place.proofs.Options.{some_made, some_mapped}

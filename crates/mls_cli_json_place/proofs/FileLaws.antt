@@ -1,5 +1,5 @@
 -- There is a place in a file just where it is refused with `BadJson` (9).
-use Rattle.std.proofs.Common.{◌≡◌, ◌∙◌, ◌&&◌, ℕ, Bool, true, false, List, not, codes, if◌then◌else◌, Option, Some, None, option_map, is_some, refl, sym, ap}
+use Rattle.std.proofs.Common.{◌≡◌, ◌∙◌, ◌&&◌, ℕ, Bool, true, false, List, not, codes, Option, Some, None, option_map, is_some, refl, sym, ap}
 use Rattle.std.specs.Str.{bytes_eq}
 use Rattle.serde_json.specs.Data.{Data, Items}
 use Rattle.serde_json.specs.Find.{as_array}
@@ -9,6 +9,7 @@ use Rattle.mls_cli_recording.specs.Recording.{final_lines_in, has_parts, is_vers
 use Rattle.mls_cli_vectors.specs.VectorsFile.{claim_in, claims_in}
 use Rattle.mls_cli_json_place.specs.declared.key.Key.TheVariants as key
 use Rattle.mls_cli_json_place.specs.declared.place.JsonPlace.{JsonPlace}
+use Rattle.mls_cli_json_place.specs.declared.place.JsonPlace.TheVariants as place
 use Rattle.mls_cli_json_place.specs.declared.place.Wrong.{Wrong}
 use Rattle.mls_cli_json_place.specs.Events.{event_wrong}
 use Rattle.mls_cli_json_place.specs.Faults.{Spot, TellsBadJson, at_key, is_bad_json, no_more, spot_by, spot_of, spots}
@@ -66,6 +67,10 @@ unfolding recording
 recording_told number text place same =
     place_told place (recording_spot number text) (data_in text >>= parts_in number) same (by_data (object_spot number) (parts_in number) (object_told number) (data_in text))
 
+-- a text that is no JSON
+pub no_recording : (number : ℕ) (text : List ℕ) (line column : ℕ) → None ≡ data_in text → TellsBadJson (recording number text) (Some (place.Text line column))
+no_recording number text line column e = recording_told number text (Some (place.Text line column)) (ap (spot_by (object_spot number)) e)
+
 -- ---- vector files
 
 array_told : (ds : Option Items) → is_some (array_spot ds) ≡ not (is_some (ds >>= each_of claim_in))
@@ -79,3 +84,6 @@ by_array (Some d) = array_told (as_array d)
 pub vectors_told : (text : List ℕ) (place : Option JsonPlace) → spots place ≡ vectors_spot text → TellsBadJson (claims_in text) place
 unfolding claims_in
 vectors_told text place same = place_told place (vectors_spot text) ((data_in text >>= as_array) >>= each_of claim_in) same (by_array (data_in text))
+
+pub no_vectors : (text : List ℕ) (line column : ℕ) → None ≡ data_in text → TellsBadJson (claims_in text) (Some (place.Text line column))
+no_vectors text line column e = vectors_told text (Some (place.Text line column)) (ap (spot_by (λ d. array_spot (as_array d))) e)

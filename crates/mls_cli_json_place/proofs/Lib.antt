@@ -5,3 +5,4 @@ pub mod Loops
 pub mod EventLaws
 pub mod VectorLaws
 pub mod FileLaws
+pub mod Texts

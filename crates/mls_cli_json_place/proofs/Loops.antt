@@ -22,7 +22,9 @@ right_off right values i value lt is fails = rw (split_at values i value lt is, 
 pub wrong_on : (wrong : Data → Option Wrong) (values : List Value) (i : ℕ) (value : Value) → i < length values → value ≡ get_or values i value → wrong (view value) ≡ None
     → first_wrong wrong (i + 1) (items_view (drop (i + 1) values)) ≡ first_wrong wrong i (items_view (drop i values))
 unfolding first_wrong
-wrong_on wrong values i value lt is none = rw (add-one i, split_at values i value lt is, none) refl
+wrong_on wrong values i value lt is none =
+    let here : first_wrong wrong i (items_view (drop i values)) ≡ first_wrong wrong (i + 1) (items_view (drop (suc i) values)) = rw (split_at values i value lt is, none) refl in
+    ap (λ (k : ℕ). first_wrong wrong (i + 1) (items_view (drop k values))) (add-one i) ∙ sym here
 
 pub wrong_here : (wrong : Data → Option Wrong) (values : List Value) (i : ℕ) (value : Value) (w : Wrong) → i < length values → value ≡ get_or values i value → wrong (view value) ≡ Some w
     → first_wrong wrong i (items_view (drop i values)) ≡ Some (i, w)

@@ -21,6 +21,7 @@ use serde_json::Value;
 use std::alloc::{AllocError, Global};
 
 /// Events of a recording of this version.
+#[derive(Drop)]
 struct Events {
     version: u64,
 }

@@ -16,6 +16,7 @@ use serde_json::Value;
 use std::alloc::{AllocError, Global};
 
 /// Vectors.
+#[derive(Drop)]
 struct Vectors;
 
 impl Entry for Vectors {

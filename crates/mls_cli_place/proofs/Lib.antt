@@ -2,6 +2,6 @@ pub mod Firsts
 pub mod Inputs
 pub mod Items
 pub mod Members
-pub mod Repeats
+pub mod Repeating
 pub mod Short
 pub mod Sides

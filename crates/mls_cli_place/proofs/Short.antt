@@ -1,8 +1,9 @@
 -- How long the parts of an input are.
-use Rattle.std.proofs.Common.{◌≡◌, ℕ, ◌+◌, ◌<◌, ◌≤◌, ◌^◌, List, [], ◌∷◌, ◌++◌, length, Option, Some, None, Result, Ok, Err, sym, ap, subst, ◌∙◌, arith, length-append, inl, inr, lt-ltb}
+use Rattle.std.proofs.Common.{◌≡◌, ℕ, ◌+◌, ◌<◌, ◌≤◌, ◌^◌, List, [], ◌∷◌, ◌++◌, length, Option, Some, None, Result, Ok, Err, refl, sym, ap, subst, ◌∙◌, arith, length-append, inl, inr, lt-ltb}
 use Rattle.std.proofs.lemmas.Bool.{cases_lt, cond-true}
 use Rattle.std.specs.Int.{w16, w32, w64}
 use Rattle.std.specs.List.{flat_map, AllByRecursion}
+use Rattle.std.specs.Prelude.{IfSome}
 use Rattle.mls_wire.specs.Combine.{optional}
 use Rattle.mls_wire.specs.Format.{Format}
 use Rattle.mls_wire.specs.Reading.{uint, header, opaque}
@@ -132,3 +133,8 @@ leaves_short nodes items t short same e =
     let parts : length (ratchet_tree.spell nodes) ≡ length (header (length text)) + length text = length-append (header (length text)) text in
     let is = sent_is nodes t (ap (from_nodes max_leaves) (sym same) ∙ e) in
     subst HasShortLeaves is.0 (short_leaves nodes (record { fits = short.fits.0; short = let lt = short.short in omega arith }))
+
+-- nodes that may be missing are short
+pub some_nodes : (o : Option (List (Option Node))) → ((xs : List (Option Node)) → o ≡ Some xs → IsShort ratchet_tree xs) → IfSome o (λ xs. IsShort ratchet_tree xs)
+some_nodes None h = tt
+some_nodes (Some xs) h = h xs refl

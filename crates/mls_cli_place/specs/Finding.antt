@@ -1,17 +1,17 @@
 -- A walk finds the fault that reading past answers, and a place inside the bytes.
-use Rattle.std.specs.Prelude.{◌≡◌, ℕ, zero, suc, ◌+◌, ◌≤◌, ◌<◌, ◌^◌, ◌==◌, Bool, true, false, cond, if◌then◌else◌, List, [], ◌∷◌, ◌++◌, length, Option, Some, None, Result, Ok, Err, refl}
-use Rattle.std.specs.Int.{Width, w8, w16}
+use Rattle.std.specs.Prelude.{◌≡◌, ℕ, zero, suc, ◌+◌, ◌≤◌, ◌^◌, ◌==◌, Bool, true, false, cond, if◌then◌else◌, List, [], ◌∷◌, ◌++◌, length, Option, Some, Result, Ok, Err, refl}
+use Rattle.std.specs.Int.{Width, w8}
 use Rattle.std.proofs.Common.{sym, ap, ◌∙◌, arith}
 use Rattle.std.proofs.lemmas.List.{length-append}
-use Rattle.mls_wire.specs.Reading.{◌>>=◌, rest_of, uint, uint_at, mark_at, empty_at, header, opaque, opaque_at}
+use Rattle.mls_wire.specs.Reading.{◌>>=◌, rest_of, uint, uint_at, header, opaque, opaque_at}
 use Rattle.mls_wire.specs.Format.{IsBytes, Takes, Format, Skip}
-use Rattle.mls_wire.specs.Laws.{IsWide, ok_is, uint_lawful, opaque_takes, opaque_bytes, wide8, wide16}
+use Rattle.mls_wire.specs.Laws.{IsWide, ok_is, uint_lawful, opaque_takes, opaque_bytes, wide8}
 use Rattle.mls_wire.specs.CombineLaws.{IsNonempty, body_past, good, items_past}
-use Rattle.mls_wire.specs.Combine.{Cases, case, left_format, mark, empty_vector, is_optional_tag, optional, optional_body, optional_tag_of, others, right_format, vector}
+use Rattle.mls_wire.specs.Combine.{Cases, case, left_format, is_optional_tag, optional, optional_body, optional_tag_of, others, right_format, vector}
 use Rattle.mls_cli_place.specs.declared.place.Found.{Found}
 use Rattle.mls_cli_place.specs.declared.step.Step.{Step}
 use Rattle.mls_cli_place.specs.declared.step.Step.TheVariants.{Item}
-use Rattle.mls_cli_place.specs.Walk.{◌▷◌, Walk, all_items, at_front, before, by_tag, case_of, chosen, content_before, enclosed, enclosed_by, field, followed, inside, items, located, no_case, no_field, one, vector_of}
+use Rattle.mls_cli_place.specs.Walk.{◌▷◌, Walk, all_items, at_front, by_tag, case_of, chosen, content_before, enclosed, enclosed_by, field, followed, inside, items, located, no_case, no_field, one, vector_of}
 use Rattle.mls_cli_place.specs.Tree.{in_no_field, optional_of, presences}
 
 -- the number alone

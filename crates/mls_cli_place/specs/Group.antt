@@ -1,7 +1,7 @@
 -- The fields of group contexts and group infos, in their order.
 use Rattle.std.specs.Prelude.{ℕ, ◌==◌, if◌then◌else◌, List, length, Result, Ok, Err}
 use Rattle.std.specs.Int.{w16}
-use Rattle.mls_wire.specs.Reading.{mark_at, opaque_at, uint_at}
+use Rattle.mls_wire.specs.Reading.{mark_at, uint_at}
 use Rattle.mls_wire.specs.Combine.{uint16, uint32, uint64}
 use Rattle.mls_leaf.specs.GroupExtensions.{group_extensions}
 use Rattle.mls_cli_place.specs.declared.place.Found.{Found}

@@ -1,10 +1,9 @@
 -- The walks over group contexts and group infos find the faults that reading answers.
-use Rattle.std.specs.Prelude.{◌≡◌, ℕ, ◌≤◌, ◌<◌, ◌==◌, Bool, true, false, cond, if◌then◌else◌, List, [], ◌∷◌, length, Result, Ok, Err, refl}
+use Rattle.std.specs.Prelude.{◌≡◌, ℕ, ◌==◌, Bool, true, false, if◌then◌else◌, List, length, Result, Ok, Err, refl}
 use Rattle.std.specs.Int.{w16}
-use Rattle.std.proofs.Common.{ap, arith, lit<, sym, ◌∙◌}
+use Rattle.std.proofs.Common.{ap, arith, lit<, ◌∙◌}
 use Rattle.mls_wire.specs.Combine.{byte_string, mark, uint16, uint32, uint64}
 use Rattle.mls_wire.specs.CombineLaws.{ended_past}
-use Rattle.mls_wire.specs.Format.{IsBytes}
 use Rattle.mls_wire.specs.Reading.{◌>>=◌, uint_at}
 use Rattle.mls_leaf.specs.GroupExtensions.{group_extensions}
 use Rattle.mls_types.specs.Enclosed.{alone_past, one_past}
@@ -14,9 +13,8 @@ use Rattle.mls_cli_place.specs.declared.place.Found.{Found}
 use Rattle.mls_cli_place.specs.declared.step.GroupField.TheVariants as group
 use Rattle.mls_cli_place.specs.declared.step.Step.{Step}
 use Rattle.mls_cli_place.specs.declared.step.Step.TheVariants.{Group, Item}
-use Rattle.mls_cli_place.specs.Finding.{AllWithin, Finds, FindsAll, Within, all_followed, finds_enclosed, finds_field, finds_one, finds_skip, finds_then, inside_within, number_followed, number_in, number_inside}
-use Rattle.mls_cli_place.specs.Group.{ended, group_context_walk, group_info_extensions_walk, group_info_walk, no_second, second_extension, tree_data, tree_extension_walk, tree_extensions}
-use Rattle.mls_cli_place.specs.Tree.{ratchet_tree_walk}
+use Rattle.mls_cli_place.specs.Finding.{AllWithin, Finds, FindsAll, all_followed, finds_enclosed, finds_field, finds_one, finds_skip, finds_then, inside_within, number_followed, number_in, number_inside}
+use Rattle.mls_cli_place.specs.Group.{ended, group_context_walk, group_info_extensions_walk, group_info_walk, no_second, tree_data, tree_extension_walk, tree_extensions}
 use Rattle.mls_cli_place.specs.TreeFinding.{ratchet_tree_finds}
 use Rattle.mls_cli_place.specs.Walk.{Walk, at_front, followed, inside, located}
 

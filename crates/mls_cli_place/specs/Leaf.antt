@@ -1,5 +1,5 @@
 -- The fields of leaves, key packages and proposals, in their order.
-use Rattle.std.specs.Prelude.{ℕ, List, Option}
+use Rattle.std.specs.Prelude.{ℕ, Option}
 use Rattle.std.specs.Int.{w8, w16}
 use Rattle.mls_wire.specs.Reading.{empty_at, mark_at, uint_at}
 use Rattle.mls_wire.specs.Combine.{uint16, uint32, uint64}

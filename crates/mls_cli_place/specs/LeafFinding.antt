@@ -2,7 +2,7 @@
 use Rattle.std.specs.Prelude.{◌^◌}
 use Rattle.std.specs.Int.{w16, w8}
 use Rattle.std.proofs.Common.{lit<}
-use Rattle.mls_wire.specs.Combine.{◌⨾◌, byte_string, empty_vector, mark, nothing, others, uint16, uint32, uint64}
+use Rattle.mls_wire.specs.Combine.{◌⨾◌, byte_string, empty_vector, mark, nothing, uint16, uint32, uint64}
 use Rattle.mls_wire.specs.Laws.{wide16, wide8}
 use Rattle.mls_leaf.specs.GroupExtensions.{group_extensions}
 use Rattle.mls_leaf.specs.KeyPackage.{key_package}

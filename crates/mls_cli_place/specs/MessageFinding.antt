@@ -2,7 +2,7 @@
 use Rattle.std.specs.Prelude.{◌^◌}
 use Rattle.std.specs.Int.{w16, w8}
 use Rattle.std.proofs.Common.{lit<}
-use Rattle.mls_wire.specs.Combine.{◌⨾◌, byte_string, mark, others, uint16, uint32, uint64}
+use Rattle.mls_wire.specs.Combine.{◌⨾◌, byte_string, mark, uint16, uint32, uint64}
 use Rattle.mls_wire.specs.Laws.{wide16, wide8}
 use Rattle.mls_leaf.specs.KeyPackage.{key_package}
 use Rattle.mls_leaf.specs.Proposal.{proposal}
@@ -17,7 +17,7 @@ use Rattle.mls_types.specs.Welcome.{encrypted_group_secrets, encrypted_group_sec
 use Rattle.mls_cli_place.specs.Finding.{Finds, chooses_case, chooses_none, finds_field, finds_one, finds_optional, finds_skip, finds_tagged, finds_then, finds_vector, places_in, places_in_both}
 use Rattle.mls_cli_place.specs.GroupFinding.{group_info_finds}
 use Rattle.mls_cli_place.specs.LeafFinding.{key_package_finds, leaf_node_finds, proposal_finds}
-use Rattle.mls_cli_place.specs.Message.{body_walk, commit_walk, encrypted_group_secrets_walk, hpke_ciphertext_walk, in_content, mls_message_walk, proposal_or_ref_walk, public_message_walk, sender_walk, signature_walk, signed_content_walk, signed_tail_walk, tag_walk, update_path_node_walk, update_path_walk, welcome_walk}
+use Rattle.mls_cli_place.specs.Message.{body_walk, commit_walk, encrypted_group_secrets_walk, hpke_ciphertext_walk, mls_message_walk, proposal_or_ref_walk, public_message_walk, sender_walk, signature_walk, signed_content_walk, signed_tail_walk, tag_walk, update_path_node_walk, update_path_walk, welcome_walk}
 
 pub hpke_ciphertext_finds : Finds hpke_ciphertext_walk hpke_ciphertext.pass
 unfolding hpke_ciphertext_walk hpke_ciphertext

@@ -1,5 +1,5 @@
 -- How a place is printed: the offset and the path of fields, or the node or the leaf of a tree.
-use Rattle.std.specs.Prelude.{ℕ, ◌==◌, Bool, true, false, if◌then◌else◌, List, [], ◌∷◌, ◌++◌, codes, length}
+use Rattle.std.specs.Prelude.{ℕ, ◌==◌, Bool, if◌then◌else◌, List, [], ◌∷◌, ◌++◌, codes, length}
 use Rattle.std.specs.Fmt.{decimal}
 use Rattle.mls_cli_place.specs.declared.place.Place.{Place}
 use Rattle.mls_cli_place.specs.declared.step.GroupField.{GroupField}

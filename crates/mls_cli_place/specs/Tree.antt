@@ -1,5 +1,5 @@
 -- The fields of a ratchet tree, in their order (RFC 9420, 7.1 and 12.4.3.3).
-use Rattle.std.specs.Prelude.{ℕ, zero, suc, List, Option, None, Some}
+use Rattle.std.specs.Prelude.{ℕ, zero, suc, Option, None, Some}
 use Rattle.std.specs.Int.{w8}
 use Rattle.mls_wire.specs.Reading.{uint_at}
 use Rattle.mls_wire.specs.Stateful.{vector_from}

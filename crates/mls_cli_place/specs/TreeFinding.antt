@@ -1,7 +1,7 @@
 -- The walks over ratchet trees find the faults that reading answers.
 use Rattle.std.specs.Int.{w8}
 use Rattle.std.specs.Prelude.{◌^◌}
-use Rattle.mls_wire.specs.Combine.{byte_string, others}
+use Rattle.mls_wire.specs.Combine.{byte_string, optional}
 use Rattle.mls_wire.specs.Laws.{wide8}
 use Rattle.mls_wire.specs.Stateful.{vector_from}
 use Rattle.mls_leaf.specs.Leaf.{leaf_node}
@@ -23,4 +23,4 @@ unfolding node_walk node
 node_finds = finds_tagged w8 (2 ^ 8) wide8 (places_in _) (chooses_case 1 leaf_node (finds_field _ leaf_node_finds) (chooses_case 2 parent_node (finds_field _ parent_node_finds) (chooses_none 7)))
 
 pub ratchet_tree_finds : Finds ratchet_tree_walk ratchet_tree.pass
-ratchet_tree_finds = finds_vector _ (optional_nonempty node) (finds_optional node node_finds)
+ratchet_tree_finds = finds_vector (optional node) (optional_nonempty node) (finds_optional node node_finds)

@@ -1,5 +1,5 @@
 -- Where a ratchet tree first breaks a rule that is asked of each member or of each node alone (RFC 9420, 7.3).
-use Rattle.std.specs.Prelude.{◌≡◌, ℕ, ◌+◌, ◌%◌, ◌==◌, ◌<◌, take, slice_index_or, Bool, true, false, List, Option, Some, None, MatchOption}
+use Rattle.std.specs.Prelude.{◌≡◌, ℕ, ◌+◌, ◌%◌, ◌==◌, ◌<◌, take, slice_index_or, Bool, true, false, List, Option, None, MatchOption}
 use Rattle.std.specs.List.{list_all}
 use Rattle.mls_leaf.specs.declared.node.Node.{Node}
 use Rattle.mls_checks.specs.Leaf.{is_capable, is_signed}

@@ -1,4 +1,3 @@
-use Rattle.std.proofs.Common.{ap, sym}
 use Rattle.mls_cli_place.proofs.Inputs.{finds_fault, left_within}
 use Rattle.mls_cli_place.proofs.message.fault_of.Goals as goal
 

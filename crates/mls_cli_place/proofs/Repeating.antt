@@ -1,12 +1,13 @@
 -- Whether keys differ, by how many of the nodes are looked at.
-use Rattle.std.proofs.Common.{◌≡◌, ◌∙◌, ◌+◌, ◌≤◌, ◌<◌, ◌++◌, ◌∷◌, ℕ, zero, suc, Bool, true, false, List, [], length, take, Option, Some, refl, sym, ap, arith}
+use Rattle.std.proofs.Common.{◌≡◌, ◌∙◌, ◌+◌, ◌^◌, ◌≤◌, ◌<◌, ◌++◌, ◌∷◌, ℕ, zero, suc, Bool, true, false, List, [], length, take, Option, None, Some, refl, sym, ap, arith}
 use Rattle.std.proofs.lemmas.Bool.{true≢false}
 use Rattle.std.specs.Option.{option_to_list}
+use Rattle.std.specs.Prelude.{IfSome}
 use Rattle.std.proofs.lemmas.Grind.{flat_map-append}
 use Rattle.mls_leaf.specs.declared.node.Node.{Node}
 use Rattle.mls_tree_index.specs.Keys.{key_of, keys_of}
 use Rattle.mls_tree_index.specs.declared.kind.KeyKind.{KeyKind}
-use Rattle.mls_tree_model.specs.Sets.{count, is_distinct, same_bytes}
+use Rattle.mls_tree_model.specs.Sets.{is_distinct, same_bytes}
 use Rattle.mls_tree_model.proofs.CountLaws.{bytes_true, count-append, distinct_at, distinct_from}
 use Rattle.mls_tree_model.proofs.MergeLaws.{bytes_refl}
 use Rattle.mls_cli_place.specs.TreePlace.{AllBelow, IsFirstFailing, has_new_key}
@@ -50,4 +51,8 @@ at_first kind xs (suc n) is h = record { order = omega arith; within = omega (ar
 pub found_at : (kind : KeyKind) (xs : List (Option Node)) (low high : ℕ) → Between kind xs low high → high ≤ low + 1 → IsFirstFailing (has_new_key kind xs) (length xs) (Some low)
 found_at kind xs low high is near =
     let same : high ≡ low + 1 = omega (arith, near, is.order) in
-    (omega (arith, is.order, is.within), (ap (differ_to kind xs) (sym same) ∙ is.repeat, new_before kind xs low is.differ))
+    (omega (arith, is.order, is.within), ap (differ_to kind xs) (sym same) ∙ is.repeat, new_before kind xs low is.differ)
+
+pub found_low : (test : ℕ → Bool) (n : ℕ) (found : Option ℕ) → n < 2 ^ 32 → IsFirstFailing test n found → IfSome found (λ x. x < 2 ^ 32)
+found_low test n None lt h = tt
+found_low test n (Some i) lt h = omega (arith, lt, h.0)
