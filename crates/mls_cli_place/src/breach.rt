@@ -1,13 +1,13 @@
 //! Which node or leaf breaks the rule of a tree that a file is refused by.
 
-ghost use Rattle.std.specs.Prelude.{◌≡◌, ◌<◌, ◌≤◌, ◌^◌, Some, None, length, option_map, IfOk, IfSome};
+ghost use Rattle.std.specs.Prelude.{◌≡◌, ◌<◌, ◌^◌, Some, None, length, option_map, IfOk, IfSome};
 ghost use Rattle.std.specs.Result.{result_ok};
 ghost use Rattle.mls_checks.specs.Short.{IsShort};
 ghost use Rattle.mls_tree.specs.ShortLeaves.{HasShortLeaves};
 ghost use Rattle.mls_tree.specs.Tree.{max_leaves, term};
 ghost use Rattle.mls_tree_model.specs.Arrays.{from_nodes};
 ghost use Rattle.mls_types.specs.GroupInfo.{ratchet_tree};
-ghost use Rattle.mls_cli_place.specs.Breach.{FindsBreach, IsBreach, MemberBreach, leaf_below, rule_of};
+ghost use Rattle.mls_cli_place.specs.Breach.{IsBreach, MemberBreach, leaf_below, rule_of};
 ghost use Rattle.mls_cli_place.specs.declared.tree_place.TreePlace.TheVariants as tree;
 
 use crate::parents::{ParentRule, first_wrong_parent};

@@ -1,6 +1,5 @@
 //! Group infos and Welcomes, read past with the place of a fault.
 
-ghost use Rattle.std.specs.Prelude.{◌≡◌, []};
 ghost use Rattle.mls_cli_place.specs.Group.{ended, group_context_walk, group_info_extensions_walk, group_info_walk, no_second, tree_data, tree_extension_walk, tree_extensions};
 ghost use Rattle.mls_cli_place.specs.GroupFinding.{group_context_finds, group_info_finds};
 ghost use Rattle.mls_cli_place.specs.Message.{encrypted_group_secrets_walk, welcome_walk};
