@@ -1,19 +1,21 @@
 -- Sides of a tree that stand alone in it.
 use Rattle.std.proofs.Common.{◌≡◌, ◌∙◌, ◌+◌, ◌-◌, ◌*◌, ◌/◌, ◌^◌, ◌<◌, ◌≤◌, ◌++◌, ◌∷◌, ◌&&◌, ℕ, zero, suc, Bool, true, false, not, if◌then◌else◌, List, [], length, take, drop, get_or, replicate, Option, Some, None, is_some, refl, sym, ap, subst, arith, length-append, append_assoc, pow-suc}
-use Rattle.std.proofs.lemmas.List.{length-replicate, replicate-append-replicate}
+use Rattle.std.proofs.lemmas.List.{length-replicate, replicate-append-replicate, take_all}
 use Rattle.mls_leaf.specs.Parent.{Parent}
 use Rattle.mls_leaf.specs.declared.node.Node.{Node}
 use Rattle.mls_treemath.specs.Paths.{nodes_in}
 use Rattle.mls_treemath.specs.Limits.{max_height}
 use Rattle.mls_treemath.proofs.Sizes.{nodes_in-pow, nodes_in-suc, nodes_in_up}
 use Rattle.mls_tree_model.specs.Arrays.{parent_in, term_of}
-use Rattle.mls_tree_model.specs.Lists.{all_parents, parent_passes}
+use Rattle.mls_tree_model.specs.Lists.{all_parents, lists_here, parent_passes}
 use Rattle.mls_tree_model.specs.Term.{Term, Leaf, Branch, size, width}
 use Rattle.mls_tree_model.proofs.ArrayLaws.{term_of-parts, term_of-suc, term_of-zero, width-term_of}
 use Rattle.mls_tree_model.proofs.Equations.{all_parents_branch, all_parents_leaf}
 use Rattle.mls_tree_array.proofs.Blanks.{term_of-behind}
+use Rattle.mls_cli_place.specs.declared.parents.ParentRule.{ParentRule}
+use Rattle.mls_cli_place.specs.declared.parents.ParentRule.TheVariants as rule
 use Rattle.mls_cli_place.specs.declared.parents.Side.{Side}
-use Rattle.mls_cli_place.specs.Parents.{IsSide, first_parent, or_else}
+use Rattle.mls_cli_place.specs.Parents.{HasListsFor, IsSide, first_parent, or_else}
 
 abbrev pub Test : Type 0
 Test = ℕ → Parent → Term → Term → Bool
@@ -23,15 +25,22 @@ Test = ℕ → Parent → Term → Term → Bool
 none_fail : (q : Test) (b h : ℕ) → all_parents q b (term_of h []) ≡ true
 none_fail q b zero = ap (all_parents q b) (term_of-zero []) ∙ all_parents_leaf b _ q
 none_fail q b (suc h) =
-    let parts = ap (all_parents q b) (term_of-suc h []) ∙ all_parents_branch b None (term_of h []) (term_of h []) q in
+    let is : term_of (suc h) [] ≡ Branch None (term_of h []) (term_of h []) = term_of-suc h [] ∙ ap (λ (xs : List (Option Node)). Branch None (term_of h xs) (term_of h [])) (take_all (nodes_in h) [] (omega arith)) in
+    let parts = ap (all_parents q b) is ∙ all_parents_branch b None (term_of h []) (term_of h []) q in
     parts ∙ ap (λ (x : Bool). x && all_parents q (b + width (term_of h [])) (term_of h [])) (none_fail q b h) ∙ none_fail q (b + width (term_of h [])) h
+
+abbrev blank_nodes : ℕ → List (Option Node)
+blank_nodes k = replicate k None
+
+many : (k : ℕ) → length (blank_nodes k) ≡ k
+many k = length-replicate k None
 
 -- nodes of a left side alone
 left_alone : (q : Test) (b h : ℕ) (xs : List (Option Node)) → length xs ≤ nodes_in h → all_parents q b (term_of (suc h) xs) ≡ all_parents q b (term_of h xs)
 left_alone q b h xs le =
     let m = nodes_in h in
     let k : ℕ = m - length xs in
-    let full : length (xs ++ replicate k None) ≡ m = length-append xs (replicate k None) ∙ omega (arith, le, length-replicate k (None {A = Node})) in
+    let full : length (xs ++ replicate k None) ≡ m = length-append xs (replicate k None) ∙ omega (arith, le, many k) in
     let is : term_of (suc h) xs ≡ Branch None (term_of h xs) (term_of h []) =
     sym (term_of-behind (suc h) xs k) ∙ sym (term_of-behind (suc h) (xs ++ replicate k None) 1)
     ∙ term_of-parts h (xs ++ replicate k None) [] None full
@@ -169,3 +178,17 @@ first_own q b c l r left right fails =
     only true true false e f h = absurd cc
     only true false y e f h = absurd cc
     only false x y e f h = refl
+
+-- ---- a side that stands alone
+
+pub alone_same : (q : Test) (side : Side) (xs items : List (Option Node)) (k : ℕ) → IsSide side → length xs ≡ nodes_in side.height → items ≡ (replicate side.before None ++ xs) ++ replicate k None
+    → all_parents q 0 (term_of side.total items) ≡ all_parents q side.first (term_of side.height xs)
+alone_same q side xs items k is long e =
+    ap (λ (ys : List (Option Node)). all_parents q 0 (term_of side.total ys)) e
+    ∙ ap (all_parents q 0) (term_of-behind side.total (replicate side.before None ++ xs) k)
+    ∙ is.alone q xs (omega (arith, long))
+
+pub alone_lists : (r : ParentRule) (side : Side) (xs items : List (Option Node)) (k : ℕ) → IsSide side → length xs ≡ nodes_in side.height → items ≡ (replicate side.before None ++ xs) ++ replicate k None
+    → HasListsFor r side.first (term_of side.height xs) → HasListsFor r 0 (term_of side.total items)
+alone_lists rule.Lists side xs items k is long e h = tt
+alone_lists rule.Hashes side xs items k is long e h = alone_same lists_here side xs items k is long e ∙ h
