@@ -43,7 +43,8 @@ abbrev pub AgreeSecretIfHomemade : World → Type 0
 AgreeSecretIfHomemade w = (i j : ℕ) (s t : Seat) → IsActive w i s → IsActive w j t → s.journal ≡ t.journal →
     IsHomemade w.made s.journal → AgreeSecret s.member t.member
 
--- members with one journal of any kind hold the same secrets, or their epoch secrets are twins
+-- members with one journal of any kind hold the same secrets, or their epoch secrets are twins: two that give one
+-- confirmation tag (RFC 9420, 6.1)
 abbrev pub AgreeByConfirmation : World → Type 0
 AgreeByConfirmation w = (i j : ℕ) (s t : Seat) → IsActive w i s → IsActive w j t → s.journal ≡ t.journal →
     AgreeOrTwins s.member t.member
@@ -255,7 +256,7 @@ pub record Headline (c : Crypto) (w : World) : Type 0 where
   pub own_refused : RefusesOwn c w
 
 -- the headline holds of the world that events leave, for every lawful suite and every list of events that code can
--- have: given bytes are bytes, and leaves have 32 bits
+-- have: given bytes are bytes, and the leaves that a commit call removes have 32 bits
 abbrev pub HoldsOnRuns : Type 0
 HoldsOnRuns = (c : Crypto) → Lawful c → (events : List Event) → AllByRecursion IsInRange events →
     Headline c (run c empty_world events)

@@ -39,8 +39,8 @@ joined_tree c info = do
   tree_checks (rules_of c info.group_context.group_id) t
   Ok t
 
--- the checks of a GroupInfo's signer: 78 it is no member, or the candidate itself; 79 its signature (RFC 9420,
--- 12.4.3.1)
+-- the checks of a GroupInfo's signer: 78 it is no member, or the candidate itself, whose way would never part from the
+-- signer's; 79 its signature (RFC 9420, 12.4.3.1)
 unfoldable pub signer_checks : Crypto → Candidate → GroupInfo → Term → Result Passed ℕ
 signer_checks c k info t = do
   signer ← require_some 78 (leaf_of t info.signer)
@@ -97,6 +97,7 @@ member_of c k o = do
     info = o.bytes;
   })
 
--- what a candidate does with any bytes: it opens the Welcome, and becomes the new member (RFC 9420, 12.4.3.1)
+-- what a candidate does with any bytes: it opens the Welcome, and becomes the new member. Whether it is in a group of
+-- this id already, which the standard asks too, is for the caller to know (RFC 9420, 12.4.3.1)
 unfoldable pub join_verdict : Crypto → Candidate → List ℕ → Result JoinedMember ℕ
 join_verdict c k bytes = opened_welcome c k bytes >>= λ o. member_of c k o
