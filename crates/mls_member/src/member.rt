@@ -136,7 +136,7 @@ impl<S: Suite> Member<S> {
         self.keys.keys()
     }
 
-    /// Lends the message of the proposal that it keeps under a reference (RFC 9420, 12.1).
+    /// The message of the proposal that it keeps under a reference (RFC 9420, 12.1).
     pub fn kept(&self, reference: &[u8]) -> Option<&[u8]>
         ensures { option_copied result ≡ kept_message self.now reference.now }
     {

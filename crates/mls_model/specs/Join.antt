@@ -1,5 +1,6 @@
 -- What a candidate does with a Welcome (RFC 9420, 12.4.3.1): the first check that fails, by its number, or the new
--- member and the GroupInfo that was opened.
+-- member and the GroupInfo that was opened. Whether the candidate is in a group of this id already, which the standard
+-- asks too, is for the caller to know.
 use Rattle.std.specs.Prelude.{ℕ, Bool, false, not, List, [], codes, find, Option, Some, None, Result, Ok}
 use Rattle.std.specs.Str.{bytes_eq}
 use Rattle.mls_wire.specs.Checks.{Passed, require, require_some, ◌>>◌}
@@ -97,7 +98,6 @@ member_of c k o = do
     info = o.bytes;
   })
 
--- what a candidate does with any bytes: it opens the Welcome, and becomes the new member. Whether it is in a group of
--- this id already, which the standard asks too, is for the caller to know (RFC 9420, 12.4.3.1)
+-- what a candidate does with any bytes: it opens the Welcome, and becomes the new member (RFC 9420, 12.4.3.1)
 unfoldable pub join_verdict : Crypto → Candidate → List ℕ → Result JoinedMember ℕ
 join_verdict c k bytes = opened_welcome c k bytes >>= λ o. member_of c k o
