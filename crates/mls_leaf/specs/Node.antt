@@ -18,11 +18,13 @@ use Rattle.mls_leaf.specs.declared.node.Node.TheVariants.{Leaf as in_leaf, Paren
 abbrev pub Nodes : Type 0
 Nodes = LeafNode ⊎ (Parent ⊎ ⊥)
 
+-- the node of what stands behind its kind
 abbrev pub make_node : Nodes → declared.Node
 make_node (inl x) = in_leaf x
 make_node (inr (inl x)) = in_parent x
 make_node (inr (inr x)) = absurd x
 
+-- what stands behind the kind of a node
 abbrev pub node_parts : declared.Node → Nodes
 node_parts (in_leaf x) = inl x
 node_parts (in_parent x) = inr (inl x)

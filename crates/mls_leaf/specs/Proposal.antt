@@ -27,6 +27,7 @@ make_proposal (inr (inr (inl x))) = Remove x
 make_proposal (inr (inr (inr (inl x)))) = GroupContextExtensions x
 make_proposal (inr (inr (inr (inr x)))) = absurd x
 
+-- what stands behind the type of a proposal
 abbrev pub proposal_parts : declared.Proposal → Proposals
 proposal_parts (Add x) = inl x
 proposal_parts (Update x) = inr (inl x)
