@@ -14,7 +14,9 @@ use Rattle.mls_checks.specs.Leaf.{is_signed, is_capable, is_of_key_package, is_o
 unfoldable pub is_package_signed : Crypto → KeyPackage → Bool
 is_package_signed c p = verify_with_label c p.leaf_node.signature_key (codes "KeyPackageTBS") (key_package_tbs p) p.signature
 
--- the checks of a key package (RFC 9420, 7.3 and 10.1)
+-- the checks of a key package (RFC 9420, 7.3 and 10.1): 50 its leaf is made for something else, 51 the signature of its
+-- leaf, 52 a capability, 55 the suite, 56 its signature, 57 both its keys are one, 36 a key isn't fit. The lifetime of
+-- its leaf isn't compared with the time, which no call knows.
 unfoldable pub key_package_checks : Crypto → KeyPackage → Result Passed ℕ
 key_package_checks c p = do
   require 50 (is_of_key_package p.leaf_node.source)
@@ -26,7 +28,8 @@ key_package_checks c p = do
   require 36 (c.key_ok p.init_key && c.key_ok p.leaf_node.encryption_key)
 
 -- the checks of a new leaf, which is made for an update or a commit, in place of an old one, in a group and at a leaf
--- index (RFC 9420, 7.3)
+-- index (RFC 9420, 7.3): 50 it is made for something else, 51 its signature, 52 a capability, 53 another identity, 54
+-- the old encryption key
 unfoldable pub replaced_checks : Crypto → LeafNode → LeafNode → Source → List ℕ → ℕ → Result Passed ℕ
 replaced_checks c new old source group index = do
   require 50 (is_of_source source new.source)

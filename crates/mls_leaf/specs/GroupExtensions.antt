@@ -54,6 +54,7 @@ allowed_extensions bytes = run_at each_once (length bytes) [] bytes
 
 -- ---- (RFC 9420, sections 8.1 and 12.1.7) Extension<V>, of types for private use, each at most once
 
+-- a list in which an extension of another type, or of a type that stands before it, is `ExtensionNotAllowed` (14)
 unfoldable pub group_extensions : Format (List Extension)
 group_extensions = vector_from each_once []
 

@@ -31,15 +31,17 @@ TreeHashInputOfParentFits parent left right = (optional parent_node).Fits parent
 unfoldable pub parent_hash_input : List ℕ → List ℕ → List ℕ → List ℕ
 parent_hash_input encryption_key parent_hash sibling = opaque encryption_key ++ opaque parent_hash ++ opaque sibling
 
+-- each vector in it has a header
 abbrev pub ParentHashInputFits : List ℕ → List ℕ → List ℕ → Type 0
 ParentHashInputFits encryption_key parent_hash sibling = byte_string.Fits encryption_key × (byte_string.Fits parent_hash × byte_string.Fits sibling)
 
 -- ---- signed leaves (RFC 9420, section 7.2)
 
--- the leaf's fields before its signature, with no extensions
+-- the leaf's fields before its signature, with its empty extensions (RFC 9420, 7.2)
 unfoldable pub leaf_content : LeafNode → List ℕ
 leaf_content v = opaque v.encryption_key ++ opaque v.signature_key ++ credential.spell v.credential ++ capabilities.spell v.capabilities ++ leaf_source.spell v.source ++ opaque []
 
+-- each vector in it has a header
 abbrev pub LeafContentFits : LeafNode → Type 0
 LeafContentFits v = byte_string.Fits v.encryption_key × (byte_string.Fits v.signature_key × (credential.Fits v.credential × (capabilities.Fits v.capabilities × leaf_source.Fits v.source)))
 
@@ -49,6 +51,7 @@ leaf_place (by_key_package before after) group index = []
 leaf_place by_update group index = opaque group ++ uint w32 index
 leaf_place (by_commit hash) group index = opaque group ++ uint w32 index
 
+-- each vector in it has a header
 abbrev pub LeafPlaceFits : LeafSource → List ℕ → Type 0
 LeafPlaceFits (by_key_package before after) group = Unit {0}
 LeafPlaceFits by_update group = byte_string.Fits group
@@ -58,6 +61,7 @@ LeafPlaceFits (by_commit hash) group = byte_string.Fits group
 unfoldable pub leaf_node_tbs : LeafNode → List ℕ → ℕ → List ℕ
 leaf_node_tbs v group index = leaf_content v ++ leaf_place v.source group index
 
+-- each vector in it has a header
 abbrev pub LeafNodeTbsFits : LeafNode → List ℕ → Type 0
 LeafNodeTbsFits v group = LeafContentFits v × LeafPlaceFits v.source group
 
@@ -67,5 +71,6 @@ LeafNodeTbsFits v group = LeafContentFits v × LeafPlaceFits v.source group
 unfoldable pub key_package_tbs : KeyPackage → List ℕ
 key_package_tbs v = uint w16 1 ++ uint w16 v.cipher_suite ++ opaque v.init_key ++ leaf_node.spell v.leaf_node ++ opaque []
 
+-- each vector in it has a header
 abbrev pub KeyPackageTbsFits : KeyPackage → Type 0
 KeyPackageTbsFits v = (v.cipher_suite < 2 ^ 16) × (byte_string.Fits v.init_key × leaf_node.Fits v.leaf_node)

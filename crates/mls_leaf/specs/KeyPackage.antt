@@ -8,7 +8,8 @@ use Rattle.mls_leaf.specs.Nonempty.{behind_nonempty, mark_nonempty}
 use Rattle.mls_leaf.specs.Leaf.{leaf_node}
 use Rattle.mls_leaf.specs.declared.key_package.KeyPackage.{KeyPackage}
 
--- (RFC 9420, section 10) uint16 version (1), uint16 cipher_suite, init_key<V>, LeafNode, Extension<V>, signature<V>
+-- (RFC 9420, section 10) uint16 version (1, else `BadTag`, 7), uint16 cipher_suite, init_key<V>, LeafNode, Extension<V>
+-- (empty, else `ExtensionNotAllowed`, 14), signature<V>
 unfoldable pub key_package : Format KeyPackage
 key_package = behind (mark 1 7 (lit< tt)) (seen (uint16 ⨾ byte_string ⨾ leaf_node ⨾ behind (empty_vector 14) byte_string)
     (λ x. record { cipher_suite = x.0; init_key = x.1.0; leaf_node = x.1.1.0; signature = x.1.1.1 })

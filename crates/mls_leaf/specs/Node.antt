@@ -14,14 +14,17 @@ use Rattle.mls_leaf.specs.declared.node.Node.TheVariants.{Leaf as in_leaf, Paren
 
 -- ---- (RFC 9420, section 12.4.3.3) uint8 kind, then 1: LeafNode; 2: ParentNode
 
+-- what stands behind each kind
 abbrev pub Nodes : Type 0
 Nodes = LeafNode ⊎ (Parent ⊎ ⊥)
 
+-- the node of what stands behind its kind
 abbrev pub make_node : Nodes → declared.Node
 make_node (inl x) = in_leaf x
 make_node (inr (inl x)) = in_parent x
 make_node (inr (inr x)) = absurd x
 
+-- what stands behind the kind of a node
 abbrev pub node_parts : declared.Node → Nodes
 node_parts (in_leaf x) = inl x
 node_parts (in_parent x) = inr (inl x)
@@ -35,6 +38,7 @@ node_back (inl x) = refl
 node_back (inr (inl x)) = refl
 node_back (inr (inr x)) = absurd x
 
+-- Node (RFC 9420, 12.4.3.3): uint8 kind, and its node; another kind is `BadTag` (7)
 unfoldable pub node : Format declared.Node
 node = seen (by_uint8 (case 1 leaf_node (case 2 parent_node (others 7)))) make_node node_parts node_there (λ x _. node_back x)
 

@@ -25,6 +25,7 @@ rising = record { item = entry_from; next = λ low entry. entry + 1; nonempty = 
 abbrev pub rising_entries : List ℕ → Result (List ℕ) ℕ
 rising_entries bytes = run_at rising (length bytes) 0 bytes
 
+-- ParentNode (RFC 9420, 7.1): an entry of its list that is not above the one before it is `NotRising` (13)
 unfoldable pub parent_node : Format Parent
 parent_node = seen (byte_string ⨾ byte_string ⨾ vector_from rising 0)
     (λ x. record { encryption_key = x.0; parent_hash = x.1.0; unmerged_leaves = x.1.1 })

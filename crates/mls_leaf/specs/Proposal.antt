@@ -16,6 +16,7 @@ use Rattle.mls_leaf.specs.declared.proposal.Proposal.TheVariants.{Add, Update, R
 
 -- ---- (RFC 9420, section 12.1) uint16 type, then 1: KeyPackage; 2: LeafNode; 3: uint32 removed; 7: Extension<V>
 
+-- what stands behind each type
 abbrev pub Proposals : Type 0
 Proposals = KeyPackage ⊎ (LeafNode ⊎ (ℕ ⊎ (List Extension ⊎ ⊥)))
 
@@ -26,6 +27,7 @@ make_proposal (inr (inr (inl x))) = Remove x
 make_proposal (inr (inr (inr (inl x)))) = GroupContextExtensions x
 make_proposal (inr (inr (inr (inr x)))) = absurd x
 
+-- what stands behind the type of a proposal
 abbrev pub proposal_parts : declared.Proposal → Proposals
 proposal_parts (Add x) = inl x
 proposal_parts (Update x) = inr (inl x)
@@ -45,6 +47,7 @@ proposal_back (inr (inr (inl x))) = refl
 proposal_back (inr (inr (inr (inl x)))) = refl
 proposal_back (inr (inr (inr (inr x)))) = absurd x
 
+-- Proposal (RFC 9420, 12.1): uint16 type, and what it calls for; another type is `UnsupportedProposal` (12)
 unfoldable pub proposal : Format declared.Proposal
 proposal = seen (by_uint16 (case 1 key_package (case 2 leaf_node (case 3 uint32 (case 7 group_extensions (others 12)))))) make_proposal proposal_parts proposal_there (λ x _. proposal_back x)
 

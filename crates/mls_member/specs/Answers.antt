@@ -27,7 +27,7 @@ use Rattle.mls_member.specs.declared.error.Refusal.{Refusal}
 use Rattle.mls_member.specs.declared.error.Refusal.TheVariants.{EpochEnd, PendingCommit}
 use Rattle.mls_member.specs.declared.join.Joined.{Joined}
 
--- the messages of a commit call
+-- the messages of a commit call: that of the commit, and that of its Welcome where there is one
 abbrev pub messages_of : Made → List ℕ × Option (List ℕ)
 messages_of made = (made.commit.items, option_map (λ v. v.items) made.welcome)
 
@@ -39,7 +39,8 @@ HasMade c maker after list made = ReachesGroup c maker after list made.commit.it
 abbrev pub joined_as : {S : Type 0} → Joined S → model.JoinedMember
 joined_as j = record { member = j.member; info = j.group_info.items }
 
--- a proposal in full is short; of a reference nothing is asked, nor of extensions
+-- a proposal in full is short, which is all that a commit call asks of its caller; of a reference nothing is asked, nor
+-- of extensions
 abbrev pub IsShortItem : Item → Type 0
 IsShortItem (item.Ref reference) = Unit {0}
 IsShortItem (item.Full p) = IsShortProposal p
@@ -48,17 +49,17 @@ IsShortItem (item.Full p) = IsShortProposal p
 abbrev pub AreShortItems : List Item → Type 0
 AreShortItems items = AllByRecursion IsShortItem items
 
--- ---- proposals that it keeps
+-- ---- proposals that a member keeps
 
--- the proposal that it keeps under a reference
+-- the proposal that a member keeps under a reference (RFC 9420, 12.4)
 abbrev pub kept_proposal : Member → List ℕ → Option Proposal
 kept_proposal m reference = option_map (λ (k : KeptProposal). k.proposal) (kept_under m.kept reference)
 
--- the message of the proposal that it keeps under a reference
+-- the message of the proposal that a member keeps under a reference (RFC 9420, 12.4)
 abbrev pub kept_message : Member → List ℕ → Option (List ℕ)
 kept_message m reference = option_map (λ (k : KeptProposal). k.message) (kept_under m.kept reference)
 
--- the epoch secret that its pending commit leads to
+-- the epoch secret that the pending commit of a member leads to
 abbrev pub pending_secret : Member → Option (List ℕ)
 pending_secret m = option_map (λ (p : Pending). p.epoch) m.pending
 

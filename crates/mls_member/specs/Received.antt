@@ -151,7 +151,7 @@ OpensSecret c m committer r commit result =
 abbrev pub epoch_after : Member → List ℕ → Received → List ℕ
 epoch_after m secret r = next_epoch_secret (init_secret m.epoch) secret (group_context.spell r.change.context)
 
--- the confirmation tag that a received commit has in its epoch (RFC 9420, 8.1)
+-- the confirmation tag that a received commit has in its epoch (RFC 9420, 6.1)
 abbrev pub tag_after : List ℕ → Received → List ℕ
 tag_after epoch r = confirmation_tag epoch r.change.context.confirmed_transcript_hash
 

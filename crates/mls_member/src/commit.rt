@@ -20,24 +20,24 @@ use mls_model::Item;
 use mls_public_group::Used;
 use mls_suite::Suite;
 
-/// What a commit call made.
+/// Holds what a commit call made.
 #[derive(Drop)]
 pub struct Made {
-    /// The message of the commit.
+    /// It is the message of the commit.
     pub commit: Vec<u8>,
-    /// The message of the Welcome, where somebody is added.
+    /// It is the message of the Welcome, where somebody is added.
     pub welcome: Option<Vec<u8>>,
 }
 
 impl<S: Suite> Member<S> {
-    /// Whether it has a pending commit.
+    /// Tells whether it has a pending commit.
     fn has_pending(&self) -> bool
         ensures { result ≡ is_some self.now.pending }
     {
         self.pending.is_some()
     }
 
-    /// The proposals that a commit call uses: `UnknownReference` (60) a reference isn't kept.
+    /// Finds the proposals that a commit call uses: `UnknownReference` (60) a reference isn't kept (RFC 9420, 12.4).
     fn resolve_items<'a>(&'a self, items: &'a [Item]) -> Result<Vec<Used<'a>>, Refusal>
         requires { AreShortItems items.now }
         ensures answer { Finds self.now.kept self.now.keys.leaf (map listed_of items.now) result }
@@ -46,8 +46,8 @@ impl<S: Suite> Member<S> {
         used_of_items(self.alloc, &self.kept, self.keys.leaf(), items)
     }
 
-    /// A commit of these proposals: `UnknownReference` (60) a reference isn't kept, then every check that it will meet,
-    /// `TooLong` (6) a message or the GroupInfo is too long (RFC 9420, 12.4.1).
+    /// Makes a commit of these proposals: `UnknownReference` (60) a reference isn't kept, then every check that it will
+    /// meet, `TooLong` (6) a message or the GroupInfo is too long (RFC 9420, 12.4.1).
     fn new_commit(&self, items: &[Item], path: bool, seed: &Seed) -> Result<NewCommit, Refusal>
         requires epoch { self.now.public.context.epoch + 1 < 2 ^ 64 }
         requires items { AreShortItems items.now }

@@ -11,17 +11,17 @@ use mls_suite::Suite;
 use std::alloc::Global;
 use std::marker::PhantomData;
 
-/// A new member, and the GroupInfo that it opened.
+/// Holds a new member, and the GroupInfo that it opened.
 #[derive(Drop)]
 pub struct Joined<S: Suite> {
-    /// The member.
+    /// It is the member.
     pub member: Member<S>,
-    /// The bytes of the GroupInfo.
+    /// These are the bytes of the GroupInfo (RFC 9420, 12.4.3).
     pub group_info: Vec<u8>,
 }
 
 impl<S: Suite> Member<S> {
-    /// The member that a Welcome makes of a candidate, or the first check that fails (RFC 9420, 12.4.3.1).
+    /// Makes a candidate the member that a Welcome lets in, or answers the first check that fails (RFC 9420, 12.4.3.1).
     pub fn join(alloc: Global, candidate: &Candidate<S>, bytes: &[u8]) -> Result<Joined<S>, Refusal>
         ensures answer { Joins (join_verdict S.crypto candidate.now bytes.now) result }
         ensures good { AdmitsGood S.crypto candidate.now result }

@@ -23,7 +23,7 @@ use mls_types::RatchetTree;
 use std::alloc::Global;
 use std::marker::{Model, PhantomData};
 
-/// A member of a group: the public state of the group, the epoch's secrets, its private keys, the proposals that it
+/// Is a member of a group: the public state of the group, the epoch's secrets, its private keys, the proposals that it
 /// keeps, and its pending commit. One that a good candidate created or joined as is good, and stays so over each call:
 /// its tree is good, and it holds just the private keys that are due to it.
 #[derive(Drop)]
@@ -51,63 +51,63 @@ impl<S: Suite> Model for Member<S> {
 }
 
 impl<S: Suite> Member<S> {
-    /// Whether it was removed.
+    /// Tells whether it was removed.
     pub fn is_gone(&self) -> bool
         ensures { result ≡ self.now.gone }
     {
         self.gone
     }
 
-    /// The public state of its group: context, tree and transcript.
+    /// Lends the public state of its group: context, tree and transcript.
     pub fn group(&self) -> &PublicGroup
         ensures { result.now ≡ self.now.public }
     {
         &self.group
     }
 
-    /// The secrets of the epoch.
+    /// Lends the secrets of the epoch (RFC 9420, 8).
     pub fn secrets(&self) -> &Epoch
         ensures { result.now ≡ self.now.epoch }
     {
         &self.epoch
     }
 
-    /// Its leaf and its private keys.
+    /// Lends its leaf and its private keys.
     pub fn keys(&self) -> &PrivatePath
         ensures { result.now ≡ self.now.keys }
     {
         &self.keys
     }
 
-    /// The index of its leaf.
+    /// Gives the index of its leaf.
     pub fn leaf_index(&self) -> u32
         ensures { result ≡ self.now.keys.leaf }
     {
         self.keys.leaf()
     }
 
-    /// The group's identifier.
+    /// Lends the group's identifier (RFC 9420, 8.1).
     pub fn group_id(&self) -> &[u8]
         ensures { result.now ≡ self.now.public.context.group_id }
     {
         self.group.context().group_id.as_slice()
     }
 
-    /// The number of the epoch.
+    /// Gives the number of the epoch (RFC 9420, 8.1).
     pub fn epoch(&self) -> u64
         ensures { result ≡ self.now.public.context.epoch }
     {
         self.group.context().epoch
     }
 
-    /// The spelling of the GroupContext (RFC 9420, 8.1).
+    /// Lends the spelling of the GroupContext (RFC 9420, 8.1).
     pub fn context_bytes(&self) -> &[u8]
         ensures { result.now ≡ group_context.spell self.now.public.context }
     {
         self.group.context_bytes()
     }
 
-    /// The spelling of the ratchet tree (RFC 9420, 12.4.3.3). TooLong where it has 2^30 bytes or more.
+    /// Spells the ratchet tree (RFC 9420, 12.4.3.3). `TooLong` (6) it has 2^30 bytes or more.
     pub fn tree_bytes(&self) -> Result<Vec<u8>, LeafError>
         ensures { Encodes ratchet_tree (to_nodes self.now.public.tree) result }
     {
@@ -115,21 +115,21 @@ impl<S: Suite> Member<S> {
         nodes.encode(self.alloc)
     }
 
-    /// The confirmed transcript hash (RFC 9420, 8.2).
+    /// Lends the confirmed transcript hash (RFC 9420, 8.2).
     pub fn confirmed_transcript_hash(&self) -> &[u8]
         ensures { result.now ≡ self.now.public.context.confirmed_transcript_hash }
     {
         self.group.context().confirmed_transcript_hash.as_slice()
     }
 
-    /// The interim transcript hash (RFC 9420, 8.2).
+    /// Lends the interim transcript hash (RFC 9420, 8.2).
     pub fn interim_transcript_hash(&self) -> &Secret
         ensures { result.now ≡ self.now.public.interim }
     {
         self.group.transcript().interim_hash()
     }
 
-    /// The private keys that it holds, each with the number of its node, by rising number.
+    /// Gives the private keys that it holds, each with the number of its node, by rising number.
     pub fn held_keys(&self) -> Result<Vec<(u64, Secret)>, OutOfMemory>
         ensures { IfOk result (λ v. ArePairs self.now.keys v.items) }
     {
@@ -146,7 +146,7 @@ impl<S: Suite> Member<S> {
         }
     }
 
-    /// The epoch secret that its pending commit leads to.
+    /// Lends the epoch secret that its pending commit leads to.
     pub fn pending_secret(&self) -> Option<&Secret>
         ensures { option_copied result ≡ pending_secret self.now }
     {

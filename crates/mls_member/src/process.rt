@@ -14,7 +14,7 @@ use mls_model::Effect;
 use mls_suite::Suite;
 
 impl<S: Suite> Member<S> {
-    /// Whether the bytes are the message of its pending commit.
+    /// Tells whether the bytes are the message of its pending commit.
     fn is_own(&self, bytes: &[u8]) -> bool
         ensures { result ≡ is_some (own_pending self.now.pending bytes.now) }
     {
@@ -36,8 +36,8 @@ impl<S: Suite> Member<S> {
         self.pending.take()
     }
 
-    /// What a message does to the member, or the first check that fails (RFC 9420, 6, 12.1 and 12.4.2). A member that
-    /// was removed answers `Gone` (40); any other follows its own pending commit, whatever memory there is.
+    /// Does to the member what a message says, or answers the first check that fails (RFC 9420, 6, 12.1 and 12.4.2). A
+    /// member that was removed answers `Gone` (40); any other follows its own pending commit, whatever memory there is.
     #[tactic(auto, unfolding(mls_model::specs::Verdict::verdict, mls_model::specs::Member::with_epoch, mls_model::specs::Member::without_pending))]
     pub fn process(&mut self, bytes: &[u8]) -> Result<Effect, Refusal>
         ensures verdict { Does (verdict S.crypto self.old bytes.now) self.old self.new result }

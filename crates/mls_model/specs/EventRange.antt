@@ -21,7 +21,8 @@ IsItemInRange (Add source) = IsSourceInRange source
 IsItemInRange (Remove leaf) = leaf < 2 ^ 32
 IsItemInRange (Extensions list) = Unit {0}
 
--- the given bytes of an event are bytes, and its leaves have 32 bits
+-- the given bytes of an event are bytes, and the leaves that a commit call removes have 32 bits; of its other parts
+-- nothing is asked
 unfoldable pub IsInRange : Event → Type 0
 IsInRange (event.ProposeAdd k source) = IsSourceInRange source
 IsInRange (event.Commit k items path seed) = AllByRecursion IsItemInRange items.items

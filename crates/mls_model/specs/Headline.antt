@@ -1,5 +1,8 @@
 -- What holds of each world that a list of events leaves. `step` says what an event does where there is memory; where
 -- there is none, code answers 1 and leaves all as before.
+-- A seat is a member with its journal: where it began, and an entry for each commit that it followed since. The list
+-- `made` has the commits that were made in the world. A journal is homemade where it began with a creation, and each of
+-- its entries was made in the world at the journal before it, by calls that reached one epoch secret.
 use Rattle.std.specs.Prelude.{◌≡◌, ◌≢◌, ℕ, ◌+◌, ◌<◌, Bool, true, false, List, length, take, slice_get, Option, Some, None, Result, Ok, Err}
 use Rattle.std.specs.List.{AllByRecursion, list_any}
 use Rattle.std.specs.Str.{bytes_eq}
@@ -43,7 +46,8 @@ abbrev pub AgreeSecretIfHomemade : World → Type 0
 AgreeSecretIfHomemade w = (i j : ℕ) (s t : Seat) → IsActive w i s → IsActive w j t → s.journal ≡ t.journal →
     IsHomemade w.made s.journal → AgreeSecret s.member t.member
 
--- members with one journal of any kind hold the same secrets, or their epoch secrets are twins
+-- members with one journal of any kind hold the same secrets, or their epoch secrets are twins: two that give one
+-- confirmation tag (RFC 9420, 6.1)
 abbrev pub AgreeByConfirmation : World → Type 0
 AgreeByConfirmation w = (i j : ℕ) (s t : Seat) → IsActive w i s → IsActive w j t → s.journal ≡ t.journal →
     AgreeOrTwins s.member t.member
@@ -255,7 +259,7 @@ pub record Headline (c : Crypto) (w : World) : Type 0 where
   pub own_refused : RefusesOwn c w
 
 -- the headline holds of the world that events leave, for every lawful suite and every list of events that code can
--- have: given bytes are bytes, and leaves have 32 bits
+-- have: given bytes are bytes, and the leaves that a commit call removes have 32 bits
 abbrev pub HoldsOnRuns : Type 0
 HoldsOnRuns = (c : Crypto) → Lawful c → (events : List Event) → AllByRecursion IsInRange events →
     Headline c (run c empty_world events)

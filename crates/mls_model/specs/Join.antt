@@ -1,5 +1,6 @@
 -- What a candidate does with a Welcome (RFC 9420, 12.4.3.1): the first check that fails, by its number, or the new
--- member and the GroupInfo that was opened.
+-- member and the GroupInfo that was opened. Whether the candidate is in a group of this id already, which the standard
+-- asks too, is for the caller to know.
 use Rattle.std.specs.Prelude.{ℕ, Bool, false, not, List, [], codes, find, Option, Some, None, Result, Ok}
 use Rattle.std.specs.Str.{bytes_eq}
 use Rattle.mls_wire.specs.Checks.{Passed, require, require_some, ◌>>◌}
@@ -39,8 +40,8 @@ joined_tree c info = do
   tree_checks (rules_of c info.group_context.group_id) t
   Ok t
 
--- the checks of a GroupInfo's signer: 78 it is no member, or the candidate itself; 79 its signature (RFC 9420,
--- 12.4.3.1)
+-- the checks of a GroupInfo's signer: 78 it is no member, or the candidate itself, whose way would never part from the
+-- signer's; 79 its signature (RFC 9420, 12.4.3.1)
 unfoldable pub signer_checks : Crypto → Candidate → GroupInfo → Term → Result Passed ℕ
 signer_checks c k info t = do
   signer ← require_some 78 (leaf_of t info.signer)

@@ -32,7 +32,8 @@ pub record SharesNext (c : Crypto) (next m : Member) (commit : List ℕ) : Type 
   pub is : verdict c m commit ≡ Ok (Advanced next.public.context.epoch, after)
   pub shares : ShareEpoch c next after
 
--- a member accepts a commit of a list (RFC 9420, 12.4.2): one that the list removes answers so
+-- a member accepts a commit of a list (RFC 9420, 12.4.2): one that the list removes answers that it was removed, and
+-- another one shares the next epoch
 pub record IsAccepted (c : Crypto) (next m : Member) (list : List ProposalOrRef) (commit : List ℕ) : Type 0 where
   pub removed : has (removes_in m.kept list) m.keys.leaf ≡ true → verdict c m commit ≡ Ok (Removed, after_removal m)
   pub follows : has (removes_in m.kept list) m.keys.leaf ≡ false → SharesNext c next m commit

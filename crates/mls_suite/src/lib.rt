@@ -21,26 +21,26 @@ pub use practice::Glass;
 /// Want of memory.
 pub type OutOfMemory = AllocError;
 
-/// A private key and its public key.
+/// Holds a private key and its public key.
 #[derive(Drop)]
 pub struct KeyPair {
     pub sk: [u8; 32],
     pub pk: Vec<u8>,
 }
 
-/// What is sealed to a public key: the encapsulated key and the ciphertext.
+/// Holds what is sealed to a public key: the encapsulated key and the ciphertext (RFC 9180, 6.1).
 #[derive(Drop)]
 pub struct Sealed {
     pub kem: Vec<u8>,
     pub ct: Vec<u8>,
 }
 
-/// The cryptography of a group. Memory aside, each answer is the function of `crypto` of the same
-/// name, and these functions keep the laws `Lawful`: what is sealed to a private key's public key is
-/// opened by it, what is signed verifies, what is sealed under a key is opened under it, public keys
-/// are fit for sealing, and keys and signatures are short.
+/// Is the cryptography of a group (RFC 9420, 5.1). Memory aside, each answer is the function of `crypto`
+/// of the same name, and these functions keep the laws `Lawful`: what is sealed to a private key's
+/// public key is opened by it, what is signed verifies, what is sealed under a key is opened under it,
+/// public keys are fit, a key takes a seal exactly where it is fit, and keys and signatures are short.
 pub trait Suite {
-    /// The number of the cipher suite (RFC 9420, 17.1).
+    /// Is the number of the cipher suite (RFC 9420, 17.1).
     const NUMBER: u16;
 
     ghost NUMBER: { ℕ };
@@ -48,20 +48,20 @@ pub trait Suite {
     // The suite's functions on lists of bytes.
     ghost crypto: { Crypto };
 
-    /// The public key of a private key.
+    /// Gives the public key of a private key for sealing.
     fn public(alloc: Global, sk: &[u8; 32]) -> Result<Vec<u8>, OutOfMemory>
         ensures { IfOk result (λ pk. pk.items ≡ crypto.public sk.now) };
 
-    /// Whether a public key is fit for sealing. Takes no memory.
+    /// Tells whether a public key is fit for sealing. It takes no memory.
     fn key_ok(pk: &[u8]) -> bool
         ensures { result ≡ crypto.key_ok pk.now };
 
-    /// The key pair made of input key material.
+    /// Makes a key pair of input key material (RFC 9180, 4).
     fn derive_key_pair(alloc: Global, ikm: &[u8]) -> Result<KeyPair, OutOfMemory>
         ensures private { IfOk result (λ p. p.sk ≡ crypto.derive ikm.now) }
         ensures public { IfOk result (λ p. p.pk.items ≡ crypto.public (crypto.derive ikm.now)) };
 
-    /// Seals `pt` to a public key with 32 random bytes; None where the key is not fit.
+    /// Seals `pt` to a public key with 32 random bytes; None where the key is not fit (RFC 9180, 6.1).
     fn seal(
         alloc: Global,
         pk: &[u8],
@@ -71,7 +71,7 @@ pub trait Suite {
     ) -> Result<Option<Sealed>, OutOfMemory>
         ensures { SealsTo (crypto.seal pk.now info.now pt.now rnd.now) result };
 
-    /// Opens what was sealed; None where it does not open.
+    /// Opens what was sealed; None where it does not open (RFC 9180, 6.1).
     fn unseal(
         alloc: Global,
         sk: &[u8; 32],
@@ -81,15 +81,15 @@ pub trait Suite {
     ) -> Result<Option<Vec<u8>>, OutOfMemory>
         ensures { OpensTo (crypto.unseal sk.now kem.now info.now ct.now) result };
 
-    /// The public key of a signature key.
+    /// Gives the public key of a signature key.
     fn sig_public(alloc: Global, sk: &[u8; 32]) -> Result<Vec<u8>, OutOfMemory>
         ensures { IfOk result (λ pk. pk.items ≡ crypto.sig_public sk.now) };
 
-    /// A signature of `m`.
+    /// Signs `m` (RFC 9420, 5.1.2).
     fn sign(alloc: Global, sk: &[u8; 32], m: &[u8]) -> Result<Vec<u8>, OutOfMemory>
         ensures { IfOk result (λ s. s.items ≡ crypto.sign sk.now m.now) };
 
-    /// Whether `s` is a signature of `m`. Takes no memory.
+    /// Tells whether `s` is a signature of `m` (RFC 9420, 5.1.2). It takes no memory.
     fn verify(pk: &[u8], m: &[u8], s: &[u8]) -> bool
         ensures { result ≡ crypto.verify pk.now m.now s.now };
 

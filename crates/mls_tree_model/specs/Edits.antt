@@ -40,7 +40,7 @@ abbrev pub or_else : Option ℕ → Option ℕ → Option ℕ
 or_else None o = o
 or_else (Some i) o = Some i
 
--- the number of the leftmost blank leaf of a tree whose first leaf is b
+-- the number of the leftmost blank leaf of a tree whose first leaf is b (RFC 9420, 12.1.1)
 unfoldable pub first_blank : ℕ → Term → Option ℕ
 first_blank b (Leaf None) = Some b
 first_blank b (Leaf (Some v)) = None

@@ -25,7 +25,7 @@ pub record Rules : Type 0 where
 unfoldable pub has_good_shape : Term → Bool
 has_good_shape t = is_full_width t
 
--- `TreeFull` (21): the tree isn't too large
+-- `TreeFull` (21): the tree has no more leaves than the limit, which is this project's choice
 unfoldable pub is_within : ℕ → Term → Bool
 is_within limit t = nat_le (width t) limit
 
@@ -54,11 +54,11 @@ is_all_signed rules t = all_members rules.is_signed 0 t
 unfoldable pub is_all_capable : Rules → Term → Bool
 is_all_capable rules t = all_members (λ i x. rules.is_capable x) 0 t
 
--- `BadKey` (36): each encryption key is fit for sealing
+-- `BadKey` (36): each encryption key is fit for sealing (RFC 9180, 7.1.4)
 unfoldable pub is_all_fit : Rules → Term → Bool
 is_all_fit rules t = list_all rules.is_fit (encryption_keys t)
 
--- the checks that a tree of good shape still has to pass, in their order
+-- the checks that a tree of good shape still has to pass, in their order (RFC 9420, 12.4.3.1)
 unfoldable pub tree_checks : Rules → Term → Result Passed ℕ
 tree_checks rules t =
     require 23 (has_good_lists t)

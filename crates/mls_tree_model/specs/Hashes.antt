@@ -13,7 +13,7 @@ unfoldable pub tree_hash : ℕ → Term → List ℕ
 tree_hash b (Leaf v) = leaf_hash b v
 tree_hash b (Branch c l r) = branch_hash c (tree_hash b l) (tree_hash (b + width l) r)
 
--- a parent with some leaves taken out of its list
+-- a parent, which may be blank, with some leaves taken out of its list (RFC 9420, 7.9)
 abbrev pub unlist_leaves : List ℕ → Option Parent → Option Parent
 unlist_leaves us None = None
 unlist_leaves us (Some p) =

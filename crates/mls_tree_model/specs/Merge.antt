@@ -8,7 +8,8 @@ use Rattle.mls_tree_model.specs.Resolution.{resolution, is_reached}
 use Rattle.mls_tree_model.specs.Way.{path_length}
 use Rattle.mls_tree_model.specs.Hashes.{parent_hash, hash_at}
 
--- the new parent of the highest of some keys and a parent hash, where the filtered direct path takes it in
+-- the new parent of the highest of some keys and a parent hash, where the filtered direct path takes it in (RFC 9420,
+-- 7.5)
 abbrev pub new_parent : Bool → List (List ℕ) → List ℕ → Option Parent
 new_parent false ks h = None
 new_parent true [] h = None

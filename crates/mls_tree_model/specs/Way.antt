@@ -12,6 +12,7 @@ pub record Step : Type 0 where
   pub first : ℕ
   pub other : Term
 
+-- a step of these parts
 abbrev pub step_at : Option Parent → ℕ → ℕ → Term → Step
 step_at c n m s = record { parent = c; node = n; first = m; other = s }
 
@@ -27,7 +28,7 @@ way b (Branch c l r) i =
 abbrev pub is_filtered : Step → Bool
 is_filtered s = is_reached s.first s.other
 
--- whether leaf j is below the other side
+-- whether leaf j is a leaf of the other side
 abbrev pub is_beside : Step → ℕ → Bool
 is_beside s j = nat_le s.first j && nat_lt j (s.first + width s.other)
 

@@ -14,6 +14,7 @@ TameAt j p None = Unit {0}
 TameAt j None (Some q) = ⊥
 TameAt j (Some p) (Some q) = (p.encryption_key ≡ q.encryption_key) × (has p.unmerged_leaves j ≡ has q.unmerged_leaves j)
 
+-- an edit is so at each parent of a way, by the parents before it and after
 unfoldable pub TameAlong : ℕ → List Step → List Step → Type 0
 TameAlong j [] [] = Unit {0}
 TameAlong j [] (s ∷ ss) = ⊥

@@ -47,7 +47,8 @@ is_complete j (s ∷ ss) [] = false
 is_complete j (s ∷ ss) (o ∷ ks) = is_due j s.parent o && is_complete j ss ks
 
 -- what joiner j, whose leaf has this key, takes in a whole tree that leaf i signed: the commit secret, and its keys. 34
--- where a parent over both is not as it must be, 35 where a key that is due is missing (RFC 9420, 12.4.3.1)
+-- where a parent over both is not as it must be (RFC 9420, 12.4.3.1); 35 where a key that is due is missing, which the
+-- standard doesn't ask: with that key missing the member couldn't open each path that is sealed to it
 unfoldable pub take_keys : Crypto → Term → ℕ → ℕ → List ℕ → List ℕ → Result Climb ℕ
 take_keys c t i j sk secret =
     climb_take c (way 0 t i) j (leaf_only (way 0 t j) sk) secret >>= λ m. if is_complete j (way 0 t j) m.keys then Ok m else Err 35
@@ -58,11 +59,12 @@ take_answer c t i j sk secret = if nat_lt i (width t) then take_keys c t i j sk 
 
 -- ---- a tree that a joiner meets
 
--- each parent of a way that isn't blank lists leaf j
+-- a parent that isn't blank lists leaf j
 abbrev pub ListsAt : ℕ → Option Parent → Type 0
 ListsAt j None = Unit {0}
 ListsAt j (Some p) = has p.unmerged_leaves j ≡ true
 
+-- each parent of a way that isn't blank lists leaf j
 unfoldable pub AllList : ℕ → List Step → Type 0
 AllList j [] = Unit {0}
 AllList j (s ∷ ss) = ListsAt j s.parent × AllList j ss

@@ -61,6 +61,7 @@ abbrev pub climb_past : Crypto → Bool → Climb → Climb
 climb_past c true m = climb_past_node c m
 climb_past c false m = climb_past_blank m
 
+-- a key before others, where this is so
 abbrev pub more_if : Bool → List ℕ → List (List ℕ) → List (List ℕ)
 more_if true k ks = k ∷ ks
 more_if false k ks = ks

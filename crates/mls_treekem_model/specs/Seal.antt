@@ -16,6 +16,7 @@ use Rattle.mls_treekem_model.specs.Chain.{node_public}
 use Rattle.mls_treekem_model.specs.Keys.{rest}
 use Rattle.mls_treekem_model.specs.Make.{filtered_count, secret_above}
 
+-- the first of two statements where this is so, else the second
 abbrev pub Choose : Bool → Type 0 → Type 0 → Type 0
 Choose true P Q = P
 Choose false P Q = Q
@@ -139,6 +140,7 @@ abbrev pub is_fit : Crypto → Option (List ℕ) → Bool
 is_fit c (Some pk) = c.key_ok pk
 is_fit c None = false
 
+-- whether the key of each of some nodes is there and fit
 unfoldable pub all_fit : Crypto → ℕ → Term → List ℕ → Bool
 all_fit c b t [] = true
 all_fit c b t (d ∷ ds) = is_fit c (key_at b t d) && all_fit c b t ds

@@ -182,6 +182,7 @@ SecretForMerged = (t : Term) (i j : ℕ) (x : LeafNode) (keys : List (List ℕ))
 
 -- ---- any path secret, whoever sent it
 
+-- a parent before others, where it isn't blank
 abbrev pub with_parent : Option Parent → List Parent → List Parent
 with_parent None ps = ps
 with_parent (Some p) ps = p ∷ ps

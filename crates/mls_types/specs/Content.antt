@@ -21,10 +21,12 @@ use Rattle.mls_types.specs.declared.content.FramedContent.{FramedContent}
 abbrev pub Senders : Type 0
 Senders = ℕ ⊎ ⊥
 
+-- the sender of what stands behind its type
 abbrev pub make_sender : Senders → Sender
 make_sender (inl leaf) = Member leaf
 make_sender (inr x) = absurd x
 
+-- what stands behind the type of a sender
 abbrev pub sender_parts : Sender → Senders
 sender_parts (Member leaf) = inl leaf
 
@@ -49,12 +51,14 @@ sender_nonempty v fits = by_uint8_nonempty (case 1 uint32 (others 7)) (sender_pa
 abbrev pub Contents : Type 0
 Contents = List ℕ ⊎ (proposals.Proposal ⊎ (commits.Commit ⊎ ⊥))
 
+-- the content of what stands behind its type
 abbrev pub make_content : Contents → contents.Content
 make_content (inl x) = Application x
 make_content (inr (inl x)) = Proposal x
 make_content (inr (inr (inl x))) = Commit x
 make_content (inr (inr (inr x))) = absurd x
 
+-- what stands behind the type of a content
 abbrev pub content_parts : contents.Content → Contents
 content_parts (Application x) = inl x
 content_parts (Proposal x) = inr (inl x)

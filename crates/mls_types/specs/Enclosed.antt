@@ -36,10 +36,12 @@ entire a = record {
 
 -- ---- no value or one
 
--- a value that was read with no byte left behind it; else the type of two bytes that follows is read, and is the fault
+-- a value that was read with no byte left behind it; else the type of two bytes that follows is read, and this fault is
+-- answered
 abbrev pub alone : {V : Type 0} → ℕ → V × List ℕ → Result (Option V) ℕ
 alone fault x = if length x.1 == 0 then Ok (Some x.0) else (uint_at w16 x.1 >>= λ _. Err fault)
 
+-- reading past such a value, whose bytes were read past
 abbrev pub alone_past : ℕ → List ℕ → Result (Unit {0}) ℕ
 alone_past fault rest = if length rest == 0 then Ok tt else (uint_at w16 rest >>= λ _. Err fault)
 
@@ -48,6 +50,7 @@ abbrev pub one_spelling_of : {V : Type 0} → Format V → Option V → List ℕ
 one_spelling_of a None = []
 one_spelling_of a (Some v) = a.spell v
 
+-- no value has a spelling, and a value where its format says so
 abbrev pub OneFits : {V : Type 0} → Format V → Option V → Type 0
 OneFits a None = Unit {0}
 OneFits a (Some v) = a.Fits v
@@ -56,6 +59,7 @@ OneFits a (Some v) = a.Fits v
 abbrev pub one_at : {V : Type 0} → Format V → ℕ → List ℕ → Result (Option V) ℕ
 one_at a fault bytes = if length bytes == 0 then Ok None else (a.read bytes >>= alone fault)
 
+-- reading past no value, or one alone
 abbrev pub one_past : {V : Type 0} → Format V → ℕ → List ℕ → Result (Unit {0}) ℕ
 one_past a fault bytes = if length bytes == 0 then Ok tt else (a.pass bytes >>= alone_past fault)
 
@@ -110,7 +114,7 @@ one_passes a fault bytes =
     chosen_passes (eqb (length bytes) 0) (a.pass bytes >>= alone_past fault) (a.read bytes >>= alone fault)
     (ap (λ (r : Result (List ℕ) ℕ). r >>= alone_past fault) (a.passes bytes) ∙ alone_passes fault (a.read bytes))
 
--- no value, or one; the type of a second is read, and is the fault
+-- no value, or one; where a second follows its type is read, and this fault is answered
 abbrev pub at_most_one : {V : Type 0} (a : Format V) → IsNonempty a → ℕ → Whole (Option V)
 at_most_one a nonempty fault = record {
   spell = one_spelling_of a;
@@ -124,6 +128,7 @@ at_most_one a nonempty fault = record {
 
 -- ---- behind a header
 
+-- a value, and the bytes after the vector
 abbrev pub with_rest : {V : Type 0} → List ℕ → V → Result (V × List ℕ) ℕ
 with_rest rest v = Ok (v, rest)
 
@@ -131,6 +136,7 @@ with_rest rest v = Ok (v, rest)
 abbrev pub all_at : {V : Type 0} → Whole V → List ℕ × List ℕ → Result (V × List ℕ) ℕ
 all_at w x = w.read x.0 >>= λ v. with_rest x.1 v
 
+-- reading past a vector whose content was read
 abbrev pub all_past : {V : Type 0} → Whole V → List ℕ × List ℕ → Result (List ℕ) ℕ
 all_past w x = w.pass x.0 >>= λ _. Ok x.1
 

@@ -17,6 +17,7 @@ use Rattle.mls_types.specs.declared.public_message.AuthenticatedContent.{Authent
 abbrev pub WireFormats : Type 0
 WireFormats = Unit {0} ⊎ (Unit {0} ⊎ (Unit {0} ⊎ (Unit {0} ⊎ ⊥)))
 
+-- the wire format of its place in the list
 abbrev pub make_wire_format : WireFormats → formats.WireFormat
 make_wire_format (inl x) = PublicMessage
 make_wire_format (inr (inl x)) = Welcome
@@ -24,6 +25,7 @@ make_wire_format (inr (inr (inl x))) = GroupInfo
 make_wire_format (inr (inr (inr (inl x)))) = KeyPackage
 make_wire_format (inr (inr (inr (inr x)))) = absurd x
 
+-- the place of a wire format in the list
 abbrev pub wire_format_parts : formats.WireFormat → WireFormats
 wire_format_parts PublicMessage = inl tt
 wire_format_parts Welcome = inr (inl tt)

@@ -25,17 +25,20 @@ Tail = SignedBody × List ℕ
 abbrev pub Tails : Type 0
 Tails = (List ℕ × List ℕ) ⊎ ((proposals.Proposal × List ℕ) ⊎ ((commits.Commit × (List ℕ × List ℕ)) ⊎ ⊥))
 
+-- what is said and the signature, of the fields behind the type
 abbrev pub make_tail : Tails → Tail
 make_tail (inl x) = (Application x.0, x.1)
 make_tail (inr (inl x)) = (Proposal x.0, x.1)
 make_tail (inr (inr (inl x))) = (Commit x.0 x.1.1, x.1.0)
 make_tail (inr (inr (inr x))) = absurd x
 
+-- the fields behind the type, of what is said and of the signature
 abbrev pub tail_of : SignedBody → List ℕ → Tails
 tail_of (Application data_bytes) signature = inl (data_bytes, signature)
 tail_of (Proposal made) signature = inr (inl (made, signature))
 tail_of (Commit made tag) signature = inr (inr (inl (made, (signature, tag))))
 
+-- the fields behind the type, of both as one value
 abbrev pub tail_parts : Tail → Tails
 tail_parts v = tail_of v.0 v.1
 

@@ -1,5 +1,5 @@
 -- The inputs that are signed and tagged (RFC 9420, 6.1 and 6.2): each is its parts in order.
--- It fits where no vector in it is too long.
+-- An input fits where no vector in it is too long.
 use Rattle.std.specs.Prelude.{ℕ, List, ◌++◌}
 use Rattle.std.specs.Int.{w16}
 use Rattle.mls_wire.specs.Reading.{uint}

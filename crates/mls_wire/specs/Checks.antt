@@ -5,6 +5,7 @@ use Rattle.std.specs.Prelude.{◌≡◌, ◌≢◌, ℕ, Bool, if◌then◌else�
 pub data Passed : Type 0 where
   passed : Passed
 
+-- a check, and what comes where it passes; else its number decides
 infixl 10 ◌>>◌
 abbrev pub ◌>>◌ : {A : Type 0} → Result Passed ℕ → Result A ℕ → Result A ℕ
 (Ok x) >> rest = rest

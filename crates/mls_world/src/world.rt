@@ -1,4 +1,4 @@
-//! A world.
+//! A world, of which the headline holds.
 
 ghost use Rattle.std.specs.Prelude.{◌≡◌, length, slice_get, option_map};
 ghost use Rattle.std.specs.Option.{option_copied};
@@ -17,7 +17,7 @@ use mls_world_plain::{Active, Journal, Member, PlainWorld};
 use std::alloc::Global;
 use std::marker::Model;
 
-/// A world that came from the empty one by events.
+/// Is a world that came from the empty one by events.
 #[derive(Drop)]
 pub struct World<S: Suite> {
     pub(crate) world: PlainWorld<S>,
@@ -40,7 +40,7 @@ impl<S: Suite> Model for World<S> {
 }
 
 impl<S: Suite> World<S> {
-    /// The world where nothing happened yet.
+    /// Makes the world where nothing has happened yet.
     pub fn new(alloc: Global) -> World<S>
         ensures { result ≡ model.empty_world }
     {
@@ -82,35 +82,35 @@ impl<S: Suite> World<S> {
         let _world = &self.world;
     }
 
-    /// Member k.
+    /// Lends member k, if there is one.
     pub fn member(&self, k: usize) -> Option<&Member<S>>
         ensures { option_copied result ≡ seated_member self.now k }
     {
         self.world.member(k)
     }
 
-    /// How many members there are, removed ones among them.
+    /// Counts the members, removed ones among them.
     pub fn member_count(&self) -> usize
         ensures { result ≡ length self.now.seats }
     {
         self.world.member_count()
     }
 
-    /// The numbers of the members that weren't removed, in order. It takes no memory.
+    /// Gives the numbers of the members that weren't removed, in order. It takes no memory.
     pub fn active(&self) -> Active<'_, S>
         ensures { result ≡ active self.now.seats }
     {
         self.world.active()
     }
 
-    /// The journal of member k: where it began, and the commits that it followed since.
+    /// Lends the journal of member k: where it began, and the commits that it followed since.
     pub fn journal(&self, k: usize) -> Option<Journal<'_>>
         ensures { result ≡ option_map (λ (s : model.Seat). s.journal) (slice_get self.now.seats k) }
     {
         self.world.journal(k)
     }
 
-    /// Message n.
+    /// Lends message n, if there is one.
     pub fn message(&self, n: usize) -> Option<&[u8]>
         ensures { option_copied result ≡ slice_get self.now.messages n }
     {

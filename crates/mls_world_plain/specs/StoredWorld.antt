@@ -12,14 +12,16 @@ use Rattle.mls_model.specs.World.{Entrant, Seat, World}
 unfoldable pub journal_at : List Journal → ℕ → Journal
 journal_at js n = get_or js n (new_journal (from.Creation 0))
 
--- a journal before its latest entry, and that entry
+-- a journal before its latest entry
 abbrev pub before : Journal → Journal
 before j = record { origin = j.origin; entries = drop 1 j.entries }
 
+-- the first of some entries, an empty one where there are none
 abbrev pub first_of : List Entry → Entry
 first_of [] = record { commit = []; names = [] }
 first_of (e ∷ es) = e
 
+-- the latest entry of a journal
 abbrev pub latest : Journal → Entry
 latest j = first_of j.entries
 
@@ -52,9 +54,11 @@ pub record Making : Type 0 where
   pub adds : List (List ℕ)
   pub welcome : Option (ℕ × List ℕ)
 
+-- a member with the journal that stands under its number
 abbrev pub seat_of : List Journal → Seated → Seat
 seat_of js s = record { member = s.member; journal = journal_at js s.journal }
 
+-- the record of a commit call, with its entry and the journal before that
 abbrev pub commit_made_of : List Journal → Making → CommitMade
 commit_made_of js d = record {
   maker = d.maker;
@@ -67,6 +71,7 @@ commit_made_of js d = record {
 
 -- ---- worlds
 
+-- the world that these parts stand for
 abbrev pub world_of : List Entrant → List Seated → List (List ℕ) → List Making → List Journal → World
 world_of entrants seats messages made js = record { entrants = entrants; seats = map (seat_of js) seats; messages = messages; made = map (commit_made_of js) made }
 
