@@ -41,7 +41,8 @@ file_app name = with_rule (new_app name) file_rule
 
 -- an optional --suite SUITE, f001 where it isn't given, and an optional --group HEX
 abbrev pub suite_rule : Rule
-suite_rule = record (new_rule (codes "SUITE")) { long = Some (codes "suite"); defaults = codes "f001" ∷ [] }
+suite_rule =
+    record (new_rule (codes "SUITE")) { long = Some (codes "suite"); defaults = codes "f001" ∷ [] }
 
 abbrev pub group_rule : Rule
 group_rule = record (new_rule (codes "HEX")) { long = Some (codes "group") }
@@ -59,7 +60,8 @@ abbrev pub show_app : App
 show_app =
     with_rule
     (with_rule
-    (with_rule (with_rule (file_app (codes "show")) (flag_rule (codes "full"))) (flag_rule (codes "raw")))
+    (with_rule (with_rule (file_app (codes "show")) (flag_rule (codes "full")))
+    (flag_rule (codes "raw")))
     json_rule)
     where_rule
 
@@ -75,7 +77,8 @@ check_app =
     (with_rule
     (with_rule
     (with_rule
-    (with_rule (with_rule (with_rule (file_app (codes "check")) suite_rule) group_rule) (flag_rule (codes "signatures")))
+    (with_rule (with_rule (with_rule (file_app (codes "check")) suite_rule) group_rule)
+    (flag_rule (codes "signatures")))
     (flag_rule (codes "group-info")))
     (flag_rule (codes "raw")))
     json_rule)
@@ -176,7 +179,8 @@ check_task info form suite signatures group layout file =
 abbrev pub check_on : Option Text → Option Text → Option Text → Option Text → Option Text → Layout
     → Text → Option Task
 check_on info raw suite signatures group layout file =
-    option_map (λ s. check_task (is_given info) (form_of raw) s (is_given signatures) group layout file)
+    option_map
+    (λ s. check_task (is_given info) (form_of raw) s (is_given signatures) group layout file)
     (option_and_then suite_of suite)
 
 -- a tree is drawn in place of its check
@@ -220,7 +224,9 @@ drawing_on rows =
 
 -- what is asked for of a recording, by the values of its options
 abbrev pub view_on : List Row → Option ReplayView
-view_on rows = view_by (option_and_then number_in (first_of (codes "N") rows)) (option_and_then number_in (first_of (codes "K") rows))
+view_on rows =
+    view_by (option_and_then number_in (first_of (codes "N") rows))
+    (option_and_then number_in (first_of (codes "K") rows))
     (is_given (first_of (codes "quiet") rows)) (is_given (first_of (codes "record") rows))
 
 -- a member's tree is drawn in place of the replies; there is no such job where another thing is
@@ -316,7 +322,8 @@ ComesOf no_job.OutOfMemory k = Unit {0}
 abbrev pub Lacks : Option Text → Option (Text × List Row) → NoJob → Type 0
 Lacks asked found (no_job.Explained n told) = told_on asked found ≡ Some (n, explanation_view told)
 Lacks asked found (no_job.Shown text) = ⊥
-Lacks asked found (no_job.Mistaken text) = (told_on asked found ≡ None) × IsMistake (lacking asked found)
+Lacks asked found (no_job.Mistaken text) =
+    (told_on asked found ≡ None) × IsMistake (lacking asked found)
 Lacks asked found no_job.OutOfMemory = Unit {0}
 
 -- of a kind that clap finds in the words
@@ -324,7 +331,8 @@ abbrev pub IsFault : Kinds → NoJob → Type 0
 IsFault kinds e = (k : ErrorKind) × ComesOf e k × ((k ≡ kind.OutOfMemory) ⊎ IsAmong k kinds)
 
 abbrev pub Explains : Kinds → Option Task → Option Text → Option (Text × List Row) → NoJob → Type 0
-Explains kinds task asked found e = IsFault kinds e ⊎ ((kinds ≡ []) × (task ≡ None) × Lacks asked found e)
+Explains kinds task asked found e =
+    IsFault kinds e ⊎ ((kinds ≡ []) × (task ≡ None) × Lacks asked found e)
 
 -- ---- of the code's values
 
@@ -333,7 +341,8 @@ abbrev pub given : Option (Bor Text) → Option Text
 given text = option_map (λ (t : Bor Text). t.now) text
 
 -- the name and the rows of a subcommand that was found, where one was
-abbrev pub found_rows : {M : Type 0} → (M → List Row) → Option (Bor Text × Bor M) → Option (Text × List Row)
+abbrev pub found_rows : {M : Type 0} → (M → List Row) → Option (Bor Text × Bor M)
+    → Option (Text × List Row)
 found_rows {M} rows found = option_map (λ (p : Bor Text × Bor M). (p.0.now, rows p.1.now)) found
 
 -- the words that code has, with the program's name as the first
@@ -360,7 +369,8 @@ task_in words = unless_asked (asked_in words) (task_of (found_in words))
 
 -- why the words name no job
 abbrev pub ExplainsWords : List Text → NoJob → Type 0
-ExplainsWords words e = Explains (fault_of mls words) (task_in words) (asked_in words) (found_in words) e
+ExplainsWords words e =
+    Explains (fault_of mls words) (task_in words) (asked_in words) (found_in words) e
 
 -- ---- of the words behind the program's own name
 
@@ -388,7 +398,9 @@ plain_replay file = replay file Glass Replies OnTerminal
 
 -- a check and a replay with all options
 abbrev pub words_of_check : List Text
-words_of_check = codes "check" ∷ codes "a" ∷ codes "--suite" ∷ codes "0001" ∷ codes "--signatures" ∷ codes "--group=67" ∷ []
+words_of_check =
+    codes "check" ∷ codes "a" ∷ codes "--suite" ∷ codes "0001" ∷ codes "--signatures"
+    ∷ codes "--group=67" ∷ []
 
 abbrev pub words_of_info : List Text
 words_of_info = codes "check" ∷ codes "--group-info" ∷ codes "--raw" ∷ codes "a" ∷ []
@@ -416,7 +428,8 @@ words_of_draw_info =
     codes "check" ∷ codes "a" ∷ codes "--draw" ∷ codes "--group-info" ∷ codes "--width=40" ∷ []
 
 abbrev pub words_of_replay : List Text
-words_of_replay = codes "replay" ∷ codes "--message" ∷ codes "12" ∷ codes "--suite=0001" ∷ codes "a" ∷ []
+words_of_replay =
+    codes "replay" ∷ codes "--message" ∷ codes "12" ∷ codes "--suite=0001" ∷ codes "a" ∷ []
 
 -- a replay that asks for a member's tree, a quiet one, and one that records
 abbrev pub words_of_tree : List Text

@@ -8,7 +8,8 @@ use Rattle.mls_cli.specs.Options.{flag_rule, number_rule}
 -- an optional --width WIDTH, a number, and a flag --svg
 abbrev pub with_drawing_rules : App → App
 with_drawing_rules app =
-    with_rule (with_rule app (number_rule (codes "WIDTH") (codes "width"))) (flag_rule (codes "svg"))
+    with_rule (with_rule app (number_rule (codes "WIDTH") (codes "width")))
+    (flag_rule (codes "svg"))
 
 -- as rows that are cut to so many columns, or as an SVG file, which has no columns
 abbrev pub drawing_by : Option ℕ → Bool → Option Drawing

@@ -17,7 +17,10 @@ number_parser = parser.Unsigned 0 18446744073709551615
 
 -- the number that decimal digits write, with a plus before them or none
 abbrev pub number_in : Text → Option ℕ
-number_in text = if accepts false number_parser text then Some (digits_value 10 (without_leading_plus text)) else None
+number_in text =
+    if accepts false number_parser text
+    then Some (digits_value 10 (without_leading_plus text))
+    else None
 
 -- an option with such a number
 abbrev pub number_rule : Text → Text → Rule

@@ -46,10 +46,12 @@ abbrev pub refusal_of : Job → List ℕ → Option ℕ
 refusal_of (job.Show file form detail layout) text =
     refusal_in (file_page form text (show_page detail form text)).ending
 refusal_of (job.Check file form suite signatures group layout) text =
-    refusal_in (file_page form text (check_page (checking suite signatures) form text group.now)).ending
+    refusal_in
+    (file_page form text (check_page (checking suite signatures) form text group.now)).ending
 refusal_of (job.CheckGroupInfo file form signatures layout) text =
     refusal_in
-    (file_page form text (group_info_page glass (checking choice.Suite0001 signatures) form text)).ending
+    (file_page form text
+    (group_info_page glass (checking choice.Suite0001 signatures) form text)).ending
 refusal_of (job.Draw file form source drawing) text =
     refusal_in (file_page form text (draw_page source drawing form text)).ending
 refusal_of (job.Replay file suite view progress) text = None
@@ -99,7 +101,8 @@ FindsBreachIn (job.Vectors file) text n found = found ≡ None
 abbrev pub IsRefusalText : Job → List ℕ → ℕ → List ℕ → Type 0
 IsRefusalText j text n said =
     (found : Option TreePlace) × FindsBreachIn j text n found
-    × (said ≡ text_if_any place_text (with_number n (fault_in j text)) ++ text_if_any tree_place_text found)
+    × (said ≡ text_if_any place_text (with_number n (fault_in j text))
+    ++ text_if_any tree_place_text found)
 
 -- nothing, where the content isn't refused
 abbrev pub IsContentText : Job → List ℕ → Option ℕ → List ℕ → Type 0

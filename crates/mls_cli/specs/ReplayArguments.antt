@@ -13,7 +13,8 @@ abbrev pub with_view_rules : App → App
 with_view_rules app =
     with_rule
     (with_rule
-    (with_rule (with_rule app (number_rule (codes "N") (codes "message"))) (number_rule (codes "K") (codes "tree")))
+    (with_rule (with_rule app (number_rule (codes "N") (codes "message")))
+    (number_rule (codes "K") (codes "tree")))
     (flag_rule (codes "quiet")))
     (flag_rule (codes "record"))
 

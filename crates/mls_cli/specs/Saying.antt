@@ -20,18 +20,24 @@ fault_text file fault.Write = []
 
 -- the errors grow by the text, or they have failed, and grow by less than that
 abbrev pub SaysOrFails : Option (List ℕ) → Option (List ℕ) → Bool → List ℕ → Type 0
-SaysOrFails old new failed text = Appends old new text ⊎ ((failed ≡ true) × AppendsPart old new text)
+SaysOrFails old new failed text =
+    Appends old new text ⊎ ((failed ≡ true) × AppendsPart old new text)
 
 -- ---- of the code's ends
 
 -- such a text is said
 abbrev pub Says : {E : Type 0} → (E → Option (List ℕ)) → Out E → Out E → List ℕ → Type 0
-Says contents old new text = SaysOrFails (contents (out_writer old)) (contents (out_writer new)) (out_failed new) text
+Says contents old new text =
+    SaysOrFails (contents (out_writer old)) (contents (out_writer new)) (out_failed new) text
 
 -- Where it succeeds, a call writes the text to the errors.
-abbrev pub WritesError : {E T X : Type 0} → (E → Option (List ℕ)) → Out E → Out E → List ℕ → Result T X → Type 0
-WritesError contents old new text result = OnOk result (Appends (contents (out_writer old)) (contents (out_writer new)) text)
+abbrev pub WritesError : {E T X : Type 0} → (E → Option (List ℕ)) → Out E → Out E → List ℕ
+    → Result T X → Type 0
+WritesError contents old new text result =
+    OnOk result (Appends (contents (out_writer old)) (contents (out_writer new)) text)
 
 -- Where it fails, a call writes a beginning of the text to the errors, and not the whole.
-abbrev pub BeginsError : {E T X : Type 0} → (E → Option (List ℕ)) → Out E → Out E → List ℕ → Result T X → Type 0
-BeginsError contents old new text result = OnErr result (AppendsPart (contents (out_writer old)) (contents (out_writer new)) text)
+abbrev pub BeginsError : {E T X : Type 0} → (E → Option (List ℕ)) → Out E → Out E → List ℕ
+    → Result T X → Type 0
+BeginsError contents old new text result =
+    OnErr result (AppendsPart (contents (out_writer old)) (contents (out_writer new)) text)

@@ -90,20 +90,26 @@ Ends Remarked file status unreadable written old new failed =
     ⊎ ((status ≡ 3) × SaysOrFails old new failed (fault_text file (cause unreadable written)))
 
 -- a text is written, with status 0; or it can't be, with status 3
-abbrev pub ShowsHelp : List ℕ → ℕ → Option (List ℕ) → Option (List ℕ) → Bool → Option (List ℕ) → Option (List ℕ) → Bool → Type 0
+abbrev pub ShowsHelp : List ℕ → ℕ → Option (List ℕ) → Option (List ℕ) → Bool
+    → Option (List ℕ) → Option (List ℕ) → Bool → Type 0
 ShowsHelp text status out_old out_new written old new failed =
     ((status ≡ 0) × Appends out_old out_new text × (written ≡ false) × Keeps old new)
-    ⊎ ((status ≡ 3) × AppendsPart out_old out_new text × SaysOrFails old new failed (fault_text [] (cause false written)))
+    ⊎ ((status ≡ 3) × AppendsPart out_old out_new text
+    × SaysOrFails old new failed (fault_text [] (cause false written)))
 
 -- the page of what is told of a refusal is written, with status 0; or it can't be, with status 3
-abbrev pub ShowsTold : ℕ → Told → ℕ → Option (List ℕ) → Option (List ℕ) → Bool → Option (List ℕ) → Option (List ℕ) → Bool → Type 0
+abbrev pub ShowsTold : ℕ → Told → ℕ → Option (List ℕ) → Option (List ℕ) → Bool
+    → Option (List ℕ) → Option (List ℕ) → Bool → Type 0
 ShowsTold n told status out_old out_new written old new failed =
-    ((status ≡ 0) × Appends out_old out_new (printout line_text (told_page n told)).text × (written ≡ false) × Keeps old new)
-    ⊎ ((status ≡ 3) × KeepsOrAppendsPart out_old out_new (printout line_text (told_page n told)).text × SaysOrFails old new failed (fault_text [] (cause false written)))
+    ((status ≡ 0) × Appends out_old out_new (printout line_text (told_page n told)).text
+    × (written ≡ false) × Keeps old new)
+    ⊎ ((status ≡ 3) × KeepsOrAppendsPart out_old out_new (printout line_text (told_page n told)).text
+    × SaysOrFails old new failed (fault_text [] (cause false written)))
 
 -- Without a job: help is written, and so is what is told of a refusal. A mistake is said, with status 2, and
 -- so is want of memory, with 3; the output stays as it was.
-abbrev pub EndsWithoutJob : NoJob → ℕ → Option (List ℕ) → Option (List ℕ) → Bool → Option (List ℕ) → Option (List ℕ) → Bool → Type 0
+abbrev pub EndsWithoutJob : NoJob → ℕ → Option (List ℕ) → Option (List ℕ) → Bool
+    → Option (List ℕ) → Option (List ℕ) → Bool → Type 0
 EndsWithoutJob (no_job.Shown text) status out_old out_new written old new failed =
     ShowsHelp (string_bytes text) status out_old out_new written old new failed
 EndsWithoutJob (no_job.Explained n told) status out_old out_new written old new failed =
@@ -128,21 +134,28 @@ read_of (job.Vectors file) text = text
 
 -- this is what a job reads of all that a reader has left, where that is known
 abbrev pub ReadsFile : {I : Type 0} → (I → Option (List ℕ)) → Job → I → List ℕ → Type 0
-ReadsFile remaining j reader text = IfSome (remaining reader) (λ (all : List ℕ). text ≡ read_of j all)
+ReadsFile remaining j reader text =
+    IfSome (remaining reader) (λ (all : List ℕ). text ≡ read_of j all)
 
 -- what a job prints of a text is printed
-abbrev pub PrintsText : {O : Type 0} → (O → Option (List ℕ)) → Job → List ℕ → O → O → Result ℕ Fault → Type 0
-PrintsText contents j text old new result = PrintsOne (IsPrintout j text) (contents old) (contents new) result
+abbrev pub PrintsText : {O : Type 0} → (O → Option (List ℕ)) → Job → List ℕ → O → O
+    → Result ℕ Fault → Type 0
+PrintsText contents j text old new result =
+    PrintsOne (IsPrintout j text) (contents old) (contents new) result
 
 -- what a job prints of all that a reader has left is printed
-abbrev pub PrintsRead : {I O : Type 0} → (I → Option (List ℕ)) → (O → Option (List ℕ)) → Job → I → O → O → Result ℕ Fault → Type 0
+abbrev pub PrintsRead : {I O : Type 0} → (I → Option (List ℕ)) → (O → Option (List ℕ)) → Job
+    → I → O → O → Result ℕ Fault → Type 0
 PrintsRead remaining contents j reader old new result =
-    IfSome (remaining reader) (λ (text : List ℕ). PrintsOne (IsPrintout j text) (contents old) (contents new) result)
+    IfSome (remaining reader)
+    (λ (text : List ℕ). PrintsOne (IsPrintout j text) (contents old) (contents new) result)
 
 -- what a job prints of a file that can be opened is printed, or the status says that it couldn't be
-abbrev pub PrintsFile : {I O : Type 0} → (I → Option (List ℕ)) → (O → Option (List ℕ)) → Job → Option I → O → O → ℕ → Type 0
+abbrev pub PrintsFile : {I O : Type 0} → (I → Option (List ℕ)) → (O → Option (List ℕ)) → Job
+    → Option I → O → O → ℕ → Type 0
 PrintsFile {I} {O} remaining contents j file old new status =
-    IfSome file (λ (reader : I). IfSome (remaining reader) (λ (text : List ℕ). PrintsOrFails (IsPrintout j text) (contents old) (contents new) status))
+    IfSome file (λ (reader : I). IfSome (remaining reader)
+    (λ (text : List ℕ). PrintsOrFails (IsPrintout j text) (contents old) (contents new) status))
 
 -- the picture of a member's tree in a recording's text is printed
 abbrev pub PrintsPicture : {O : Type 0} → (O → Option (List ℕ)) → SuiteChoice → ℕ → Drawing → List ℕ
@@ -152,12 +165,16 @@ PrintsPicture contents suite member drawing text old new result =
     (contents old) (contents new) result
 
 -- a view of a recording's text is printed
-abbrev pub PrintsRecording : {O : Type 0} → (O → Option (List ℕ)) → SuiteChoice → ReplayView → List ℕ → O → O → Result ℕ Fault → Type 0
-PrintsRecording contents suite view text old new result = PrintsOne (IsView (crypto_of suite) view text) (contents old) (contents new) result
+abbrev pub PrintsRecording : {O : Type 0} → (O → Option (List ℕ)) → SuiteChoice → ReplayView
+    → List ℕ → O → O → Result ℕ Fault → Type 0
+PrintsRecording contents suite view text old new result =
+    PrintsOne (IsView (crypto_of suite) view text) (contents old) (contents new) result
 
 -- a file that can't be read leaves the output as it was
-abbrev pub KeepsUnread : {I O : Type 0} → (I → Bool) → (O → Option (List ℕ)) → Option I → O → O → Type 0
-KeepsUnread failed contents file old new = unread failed file ≡ true → Keeps (contents old) (contents new)
+abbrev pub KeepsUnread : {I O : Type 0} → (I → Bool) → (O → Option (List ℕ)) → Option I → O → O
+    → Type 0
+KeepsUnread failed contents file old new =
+    unread failed file ≡ true → Keeps (contents old) (contents new)
 
 -- what is remarked of all that a reader has left, where it ends with this status, is said, and no more
 abbrev pub Remarks : {I E : Type 0} → (I → Option (List ℕ)) → (E → Option (List ℕ)) → Request → I

@@ -208,7 +208,8 @@ fn job_on<'a>(name: &str, matches: &ArgMatches<'a>, file: &'a str) -> Option<Job
 /// What the words ask for, the program's own name first.
 pub fn request<'a, S: AsStr>(alloc: Global, words: &'a [S]) -> Result<Request<'a>, NoJob>
     // The job is the subcommand and the FILE of clap's matches.
-    ensures named { IfOk result (λ r. task_in (map S.text words.entry.now) ≡ Some (task_view r.job)) }
+    ensures named { IfOk result (λ r.
+        task_in (map S.text words.entry.now) ≡ Some (task_view r.job)) }
     ensures asked { IfOk result (λ r.
         r.asks_where ≡ asks_where (found_in (map S.text words.entry.now))) }
     // It comes only where clap finds no fault in the words.
@@ -232,7 +233,8 @@ pub fn request<'a, S: AsStr>(alloc: Global, words: &'a [S]) -> Result<Request<'a
 /// What clap makes of the words.
 fn parse_words<'a, S: AsStr>(alloc: Global, words: &'a [S]) -> Result<ArgMatches<'a>, Error>
     ensures rows { IfOk result (λ m. subcommand_rows_of m ≡ found_in (map S.text words.entry.now)) }
-    ensures top { IfOk result (λ m. rows_of (found_of m) ≡ matches_of mls (map S.text words.entry.now)) }
+    ensures top { IfOk result (λ m.
+        rows_of (found_of m) ≡ matches_of mls (map S.text words.entry.now)) }
     ensures faults { FailsBy (fault_of mls (map S.text words.entry.now)) result }
 {
     command(alloc)?.try_get_matches_from(words)
@@ -406,7 +408,8 @@ fn asks_where(matches: &ArgMatches<'_>) -> bool
 
 /// The job that the matches stand for: none where a refusal is asked for.
 fn job_in<'a>(matches: &ArgMatches<'a>) -> Option<Job<'a>>
-    ensures { maybe_task result ≡ unless_asked (first_of (codes "REFUSAL") (rows_of (found_of matches.now)))
+    ensures { maybe_task result
+        ≡ unless_asked (first_of (codes "REFUSAL") (rows_of (found_of matches.now)))
         (task_of (subcommand_rows_of matches.now)) }
 {
     match value_of(matches, "REFUSAL") {
@@ -431,7 +434,8 @@ pub fn examples()
     ensures shows { task_behind (codes "show" ∷ codes "a" ∷ []) ≡ Some (plain_show (codes "a")) }
     ensures shows_all { task_behind (codes "show" ∷ codes "--raw" ∷ codes "a" ∷ codes "--full" ∷ [])
         ≡ Some (show (codes "a") Form.Raw Detail.Full Layout.Lines) }
-    ensures replays { task_behind (codes "replay" ∷ codes "a" ∷ []) ≡ Some (plain_replay (codes "a")) }
+    ensures replays { task_behind (codes "replay" ∷ codes "a" ∷ [])
+        ≡ Some (plain_replay (codes "a")) }
     ensures judges { task_behind (codes "vectors" ∷ codes "a" ∷ []) ≡ Some (vectors (codes "a")) }
     ensures checks { task_behind (codes "check" ∷ codes "a" ∷ []) ≡ Some (plain_check (codes "a")) }
     ensures chosen { task_behind words_of_check

@@ -39,7 +39,8 @@ fn told_of(word: &str) -> Option<(u8, Explanation)>
 /// What is told where a refusal is asked for and no subcommand is given.
 fn told_on(matches: &ArgMatches<'_>) -> Option<(u8, Explanation)>
     ensures { option_map told_view result
-        ≡ told_on (first_of (codes "REFUSAL") (rows_of (found_of matches.now))) (subcommand_rows_of matches.now) }
+        ≡ told_on (first_of (codes "REFUSAL") (rows_of (found_of matches.now)))
+        (subcommand_rows_of matches.now) }
 {
     let word = value_of(matches, "REFUSAL")?;
     match matched_subcommand(matches) {

@@ -1,4 +1,4 @@
-//! Where ratchet trees break rules that are asked of each member or of each node alone.
+//! Where ratchet trees break rules that are asked of each member, of each node or of each parent.
 
 use super::*;
 use mls_cli_text::{Form, Printed};
@@ -101,6 +101,18 @@ const TWINS: &str =
      000102f0010000020001020003736967000101204b4b4b4b4b4b4b4b4b4b4b4b4b4b4b4b4b4b4b4b4b4b4b4b4b\
      4b4b4b4b4b4b4b0153000102696402000102f0010000020001020003736967";
 
+/// Four members under three parents. The root lists leaf 9, and its right child leaf 0.
+const WRONG_LISTS: &str =
+    "407e0101010101810001016102000102f0010000020001020001dd0102010900000101010201820001016202\
+     000102f0010000020001020001dd010201090004000000090101010101810001016102000102f00100000200\
+     01020001dd010201090004000000000101010201820001016202000102f0010000020001020001dd";
+
+/// Four members under a root and its right child, which have no parent hashes. Its left child is blank.
+const WRONG_HASHES: &str =
+    "40710101010101810001016102000102f0010000020001020001dd000101010201820001016202000102f001\
+     0000020001020001dd0102010900000101010101810001016102000102f0010000020001020001dd01020109\
+     00000101010201820001016202000102f0010000020001020001dd";
+
 /// A GroupInfo of a group whose member has a key that isn't fit.
 const GROUP_INFO: &str =
     "000100040001f0010167000000000000000101740004f00301652000021d1c010101450153000102696402000102\
@@ -125,10 +137,17 @@ fn finds_breaches(rt: HostRuntime) -> Result<(), Fail> {
         (TWINS, "", 52, "none\n"),
         (TWINS, "", 36, "none\n"),
         (TWINS, "", 23, "none\n"),
+        (TWINS, "", 24, "none\n"),
+        (WRONG_LISTS, "", 23, "node: 5\n"),
+        (WRONG_LISTS, "", 24, "none\n"),
+        (WRONG_HASHES, "", 23, "none\n"),
+        (WRONG_HASHES, "", 24, "node: 5\n"),
         (TWINS, "6", 25, "none\n"),
         ("00", "", 25, "none\n"),
+        ("00", "", 24, "none\n"),
         ("03000000", "", 51, "none\n"),
         ("06010201700000", "", 20, "node: 0\n"),
+        ("06010201700000", "", 24, "none\n"),
         ("06010201700000", "", 36, "node: 0\n"),
         ("zz", "", 36, "none\n"),
     ];

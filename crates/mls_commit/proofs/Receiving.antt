@@ -11,11 +11,10 @@ use Rattle.mls_tree.specs.Tree.{Tree, term}
 use Rattle.mls_tree_model.specs.Term.{Term}
 use Rattle.mls_model.specs.PublicState.{PublicState, Used}
 use Rattle.mls_model.specs.Proposals.{updates, removed_leaves, adds}
-use Rattle.mls_model.specs.Commit.{Edits, Change, apply_updates, apply_removes, apply_adds, apply_proposals, apply_path_if, public_with}
+use Rattle.mls_model.specs.Commit.{Edits, Change, apply_updates, apply_removes, apply_adds, apply_proposals, apply_path_if, public_with, change_of}
 use Rattle.mls_schedule.specs.Transcript.{interim_hash}
 use Rattle.mls_types.specs.declared.group_context.GroupContext.{GroupContext}
 use Rattle.mls_types.specs.declared.update_path.UpdatePath.{UpdatePath}
-use Rattle.mls_commit.specs.Change.{change_of}
 use Rattle.mls_public_group.specs.NextTree.{next_term, is_merged, IsPreparedFor}
 use Rattle.mls_public_group.specs.declared.next_tree.NextTree.{NextTree}
 use Rattle.mls_public_group.specs.declared.next_tree.NextTree.TheVariants.{Edited, EditedMerged, Merged}

@@ -17,15 +17,18 @@ use Rattle.mls_commit.specs.declared.error.CommitError.{CommitError}
 
 -- The call merges a leaf and keys into a tree, or refuses with the number of what fails, memory aside (RFC 9420, 7.5).
 abbrev pub MergesPath : Term → ℕ → LeafNode → List (List ℕ) → Result NextTree TreeError → Type 0
-MergesPath t i leaf keys result = Answers (next_term t) number_of_tree (merge_answer t i leaf keys) result
+MergesPath t i leaf keys result =
+    Answers (next_term t) number_of_tree (merge_answer t i leaf keys) result
 
 -- The call checks the committer's path and merges it into the edited tree, or refuses with the number of the first
 -- check that fails, memory aside (RFC 9420, 12.4.2).
-abbrev pub AppliesPath : Crypto → PublicState → ℕ → Edits → UpdatePath → Result NextTree CommitError → Type 0
+abbrev pub AppliesPath : Crypto → PublicState → ℕ → Edits → UpdatePath →
+    Result NextTree CommitError → Type 0
 AppliesPath c p committer e path result =
     Answers (next_term e.tree) number_of (apply_update_path c p committer e path) result
 
 -- The call applies the path of a commit, and leaves the edited tree as it is where the commit has none.
-abbrev pub AppliesPathIf : Crypto → PublicState → ℕ → Edits → Option UpdatePath → Result NextTree CommitError → Type 0
+abbrev pub AppliesPathIf : Crypto → PublicState → ℕ → Edits → Option UpdatePath →
+    Result NextTree CommitError → Type 0
 AppliesPathIf c p committer e path result =
     Answers (next_term e.tree) number_of (apply_path_if c p committer e path) result

@@ -17,7 +17,7 @@ ghost use Rattle.mls_public_group.specs.ProposalChecks.{member_check};
 ghost use Rattle.mls_commit.specs.declared.path.PathBase.TheVariants.{GroupTree};
 
 use crate::error::CommitError;
-use mls_checks::{CheckError, Source, replaced};
+use mls_checks::{CheckError, LeafUse, check_replacement};
 use mls_leaf::{Bytes, LeafNode};
 use mls_public_group::{Edits, NextTree, PublicGroup, Used};
 use mls_suite::Suite;
@@ -148,11 +148,11 @@ pub(crate) fn apply_update_path<S: Suite>(
         return Err(CommitError::from(TreeError::NoSuchLeaf));
     };
     let group_id = group.context().group_id.as_slice();
-    replaced::<S>(
+    check_replacement::<S>(
         alloc,
         &path.leaf_node,
         old,
-        Source::Commit,
+        LeafUse::Commit,
         group_id,
         committer,
     )?;

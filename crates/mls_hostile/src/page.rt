@@ -28,15 +28,17 @@ impl Page {
     }
 
     fn secrets(&mut self, epoch: &Epoch) -> Result<(), AllocError> {
+        let external = epoch.external_secret();
+        let resumption = epoch.resumption_psk();
         let secrets = [
             epoch.epoch_secret(),
             epoch.sender_data_secret(),
             epoch.encryption_secret(),
             epoch.exporter_secret(),
-            epoch.external_secret(),
+            &external,
             epoch.confirmation_key(),
             epoch.membership_key(),
-            epoch.resumption_psk(),
+            &resumption,
             epoch.epoch_authenticator(),
             epoch.init_secret(),
         ];
@@ -71,7 +73,7 @@ impl Page {
 
     fn kept(&mut self, member: &Member<Glass>, references: &[Secret]) -> Result<(), AllocError> {
         for reference in references {
-            self.optional(member.kept(reference))?;
+            self.optional(member.kept_message(reference))?;
         }
         match member.pending_secret() {
             Some(secret) => self.entry(secret),

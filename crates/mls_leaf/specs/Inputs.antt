@@ -39,7 +39,9 @@ ParentHashInputFits encryption_key parent_hash sibling = byte_string.Fits encryp
 
 -- the leaf's fields before its signature, with its empty extensions (RFC 9420, 7.2)
 unfoldable pub leaf_content : LeafNode → List ℕ
-leaf_content v = opaque v.encryption_key ++ opaque v.signature_key ++ credential.spell v.credential ++ capabilities.spell v.capabilities ++ leaf_source.spell v.source ++ opaque []
+leaf_content v =
+    opaque v.encryption_key ++ opaque v.signature_key ++ credential.spell v.credential
+    ++ capabilities.spell v.capabilities ++ leaf_source.spell v.source ++ opaque []
 
 -- each vector in it has a header
 abbrev pub LeafContentFits : LeafNode → Type 0

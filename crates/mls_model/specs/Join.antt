@@ -40,8 +40,8 @@ joined_tree c info = do
   tree_checks (rules_of c info.group_context.group_id) t
   Ok t
 
--- the checks of a GroupInfo's signer: 78 it is no member, or the candidate itself, whose way would never part from the
--- signer's; 79 its signature (RFC 9420, 12.4.3.1)
+-- the checks of a GroupInfo's signer: `SignerWrong` (78) it is no member, or the candidate itself, whose way would
+-- never part from the signer's; `GroupInfoSignature` (79) its signature (RFC 9420, 12.4.3.1)
 unfoldable pub signer_checks : Crypto → Candidate → GroupInfo → Term → Result Passed ℕ
 signer_checks c k info t = do
   signer ← require_some 78 (leaf_of t info.signer)
@@ -70,14 +70,10 @@ pub record JoinedMember : Type 0 where
   pub member : Member
   pub info : List ℕ
 
--- the new member of an opened Welcome (RFC 9420, 12.4.3.1): the checks of tree and signer, `NotInTree` (80) no leaf is
--- the candidate's, the checks of its keys, `BadConfirmationTag` (65)
-unfoldable pub member_of : Crypto → Candidate → Opened → Result JoinedMember ℕ
-member_of c k o = do
-  t ← joined_tree c o.info
-  signer_checks c k o.info t
-  place ← require_some 80 (place_of k.offered.leaf_node t)
-  keys ← joined_keys c t o.info.signer (record { leaf = place.0; own = k.leaf; above = [] }) o.path_secret
+-- the new member with these keys in this tree: `BadConfirmationTag` (65) the confirmation tag isn't that of the epoch
+-- (RFC 9420, 12.4.3.1)
+unfoldable pub enter_group : Candidate → Opened → Term → PrivateKeys → Result JoinedMember ℕ
+enter_group k o t keys = do
   let context : GroupContext = o.info.group_context
   let epoch = epoch_secret o.joiner (group_context.spell context)
   require 65 (bytes_eq o.info.confirmation_tag (confirmation_tag epoch context.confirmed_transcript_hash))
@@ -89,7 +85,7 @@ member_of c k o = do
         tree = t;
         interim = interim_hash context.confirmed_transcript_hash o.info.confirmation_tag;
       };
-      epoch = epoch;
+      epoch_secret = epoch;
       keys = keys;
       signing = k.signing;
       kept = [];
@@ -97,6 +93,16 @@ member_of c k o = do
     };
     info = o.bytes;
   })
+
+-- the new member of an opened Welcome (RFC 9420, 12.4.3.1): the checks of tree and signer, `NotInTree` (80) no leaf is
+-- the candidate's, the checks of its keys, and of the confirmation tag
+unfoldable pub member_of : Crypto → Candidate → Opened → Result JoinedMember ℕ
+member_of c k o = do
+  t ← joined_tree c o.info
+  signer_checks c k o.info t
+  place ← require_some 80 (place_of k.offered.leaf_node t)
+  keys ← joined_keys c t o.info.signer (record { leaf = place.0; own = k.leaf; above = [] }) o.path_secret
+  enter_group k o t keys
 
 -- what a candidate does with any bytes: it opens the Welcome, and becomes the new member (RFC 9420, 12.4.3.1)
 unfoldable pub join_verdict : Crypto → Candidate → List ℕ → Result JoinedMember ℕ

@@ -2,7 +2,7 @@
 use Rattle.std.specs.Prelude.{◌≡◌, ℕ, ◌-◌, ◌^◌, nat_lt, true, false, List, None, is_some, Ok, Err}
 use Rattle.std.specs.Str.{bytes_eq}
 use Rattle.mls_leaf.specs.declared.proposal.Proposal.{Proposal}
-use Rattle.mls_types.specs.SignedParts.{framed}
+use Rattle.mls_types.specs.SignedParts.{framed_content_of}
 use Rattle.mls_types.specs.declared.commit.Commit.{Commit}
 use Rattle.mls_types.specs.declared.message.MlsMessage.{MlsMessage}
 use Rattle.mls_types.specs.declared.message.MlsMessage.TheVariants as message
@@ -54,7 +54,7 @@ pub record IsUsing (m : Member) (v : SignedContent) (commit : Commit) (used : Li
 pub record IsChanging (c : Crypto) (m : Member) (v : SignedContent) (commit : Commit) (used : List Used)
     (change : Change) : Type 0 where
   pub is_using : IsUsing m v commit used
-  pub change_is : change_of_commit c m.public (sender_leaf v.sender) used commit (framed v) v.signature ≡ Ok change
+  pub change_is : change_of_commit c m.public (sender_leaf v.sender) used commit (framed_content_of v) v.signature ≡ Ok change
 
 -- ---- the five ways in which bytes are taken
 
@@ -89,7 +89,7 @@ pub data Refusing (c : Crypto) (m : Member) (bytes : List ℕ) (n : ℕ) : Type 
   unread : IsOther m bytes → decode_message bytes ≡ Err n → Refusing c m bytes n
   no_public : (w : MlsMessage) → IsOther m bytes → decode_message bytes ≡ Ok w → public_in w ≡ None → n ≡ 41 →
       Refusing c m bytes n
-  -- a check of every message fails: 42 to 48
+  -- a check of every message fails: `WrongGroup` (42) to `OwnUnknown` (48)
   unframed : (v : PublicMessage) → IsOther m bytes → decode_message bytes ≡ Ok (message.PublicMessage v) →
       framing_checks c m v bytes ≡ Err n → Refusing c m bytes n
   -- a proposal that isn't kept fails its checks
@@ -106,7 +106,7 @@ pub data Refusing (c : Crypto) (m : Member) (bytes : List ℕ) (n : ℕ) : Type 
   -- what is public fails its checks
   unsound : (v : PublicMessage) (commit : Commit) (tag : List ℕ) (used : List Used) → IsCommit c m bytes v commit tag →
       IsUsing m v.content commit used →
-      change_of_commit c m.public (sender_leaf v.content.sender) used commit (framed v.content) v.content.signature
+      change_of_commit c m.public (sender_leaf v.content.sender) used commit (framed_content_of v.content) v.content.signature
       ≡ Err n → Refusing c m bytes n
   -- the path doesn't open
   closed : (v : PublicMessage) (commit : Commit) (tag : List ℕ) (used : List Used) (change : Change) →

@@ -22,10 +22,6 @@ welcome_secret joiner = derive_secret (intermediate_secret joiner) (codes "welco
 unfoldable pub epoch_secret : List ℕ → List ℕ → List ℕ
 epoch_secret joiner context = expand_with_label (intermediate_secret joiner) (codes "epoch") context 32
 
--- the welcome secret of the next epoch, from init secret, commit secret and new context (RFC 9420, 8)
-unfoldable pub next_welcome : List ℕ → List ℕ → List ℕ → List ℕ
-next_welcome init commit_secret context = welcome_secret (joiner_secret init commit_secret context)
-
 -- the epoch secret of the next epoch, from init secret, commit secret and new context (RFC 9420, 8)
 unfoldable pub next_epoch_secret : List ℕ → List ℕ → List ℕ → List ℕ
 next_epoch_secret init commit_secret context = epoch_secret (joiner_secret init commit_secret context) context
@@ -115,5 +111,5 @@ unfoldable pub membership_tag : List ℕ → List ℕ → List ℕ
 membership_tag epoch said = hmac (membership_key epoch) said
 
 -- an exported secret of n bytes, under a label and a context (RFC 9420, 8.5)
-unfoldable pub exported : List ℕ → List ℕ → List ℕ → ℕ → List ℕ
-exported epoch label context n = expand_with_label (derive_secret (exporter_secret epoch) label) (codes "exported") (sha256 context) n
+unfoldable pub export_secret : List ℕ → List ℕ → List ℕ → ℕ → List ℕ
+export_secret epoch label context n = expand_with_label (derive_secret (exporter_secret epoch) label) (codes "exported") (sha256 context) n

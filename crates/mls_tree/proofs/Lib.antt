@@ -31,3 +31,4 @@ pub mod Filling
 pub mod Indexing
 pub mod Ways
 pub mod Following
+pub mod Drafting

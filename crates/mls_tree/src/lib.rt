@@ -8,6 +8,7 @@
 #[cfg(test)]
 mod check_tests;
 mod checking;
+mod drafts;
 mod edits;
 mod error;
 #[cfg(test)]
@@ -35,6 +36,7 @@ mod way;
 #[cfg(test)]
 mod way_tests;
 
+pub use drafts::PathDraft;
 pub use error::TreeError;
 pub use laws::{hashing_costs, laws_of_leaves};
 pub use mls_tree_array::Hash;

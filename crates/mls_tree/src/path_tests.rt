@@ -1,6 +1,6 @@
 use crate::rows::Step::{
-    Add, AddKeys, Counts, Distinct, FilteredPath, Follow, Good, IsBlank, Merge, MergeCommitted,
-    MergeGiven, MergeLong, ParentHashLength, Remove, Resolution, Single,
+    Add, AddKeys, Counts, Distinct, FilteredPath, Follow, Good, IsBlank, LastPath, Merge,
+    MergeCommitted, MergeGiven, MergeLong, ParentHashLength, Remove, Resolution, Single, Update,
 };
 use crate::rows::Told::{Done, Is, Refused};
 use crate::rows::{Row, count_met, count_met_rows};
@@ -48,6 +48,30 @@ fn a_prepared_path_is_followed(rt: HostRuntime) -> Result<(), Fail> {
     Ok(())
 }
 
+/// Two members: the path of each shows until a leaf is replaced or the tree grows.
+const LAST: &[Row] = &[
+    (Single(1), Done),
+    (LastPath, Is(&[])),
+    (Add(2), Is(&[1])),
+    (LastPath, Is(&[])),
+    (Merge(1, 3, 4), Done),
+    (LastPath, Is(&[1, 2])),
+    (Merge(0, 5, 6), Done),
+    (LastPath, Is(&[1, 0])),
+    (Update(1, 7), Done),
+    (LastPath, Is(&[])),
+    (Merge(1, 8, 9), Done),
+    (LastPath, Is(&[1, 2])),
+    (Add(10), Is(&[2])),
+    (LastPath, Is(&[])),
+];
+
+#[test]
+fn the_last_path_is_told(rt: HostRuntime) -> Result<(), Fail> {
+    assert_eq!(rt; count_met(rt.alloc(), LAST)?, LAST.len());
+    Ok(())
+}
+
 const REFUSED: &[Row] = &[
     (Single(1), Done),
     (Add(2), Is(&[1])),
@@ -73,8 +97,10 @@ const LISTED: &[Row] = &[
     (MergeLong(0), Is(&[32])),
     (IsBlank(1), Is(&[1])),
     (Resolution(3), Is(&[3])),
+    (LastPath, Is(&[3, 0])),
     (Add(7), Is(&[1])),
     (Resolution(3), Is(&[3, 2])),
+    (LastPath, Is(&[3, 0])),
     (Resolution(1), Is(&[0, 2])),
     (IsBlank(5), Is(&[1])),
     (Good, Is(&[1, 1])),
@@ -98,6 +124,7 @@ const BELOW_ROOT: &[Row] = &[
     (IsBlank(1), Is(&[1])),
     (IsBlank(3), Is(&[1])),
     (ParentHashLength(5), Is(&[0])),
+    (LastPath, Is(&[])),
 ];
 
 #[test]

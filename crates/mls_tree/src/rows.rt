@@ -6,7 +6,7 @@ use crate::test_edits::{
 };
 use crate::test_queries::{
     ciphertext_counts, counts, distinct, filtered_path, good, hashes_made, is_blank, is_reached,
-    parent_hash_length, resolution, sent_length,
+    last_path, parent_hash_length, resolution, sent_length,
 };
 use crate::test_trees::{all_taken, copy_of, odd_tree, single, taken_leaves, tree_with_unmerged};
 use crate::{PublicTree, TreeError};
@@ -52,6 +52,8 @@ pub(crate) enum Step {
     /// Whether this node's resolution isn't empty.
     IsReached(u32),
     FilteredPath(u32),
+    /// The path of the last commit that had one.
+    LastPath,
     /// The ciphertexts of each node of this member's path, where these leaves were just added.
     Ciphertexts(u32, &'static [u32]),
     /// Whether this node is blank or outside the tree.
@@ -101,6 +103,7 @@ fn answer(alloc: Global, tree: &mut Box<PublicTree>, step: Step) -> Result<Vec<u
         Step::Resolution(x) => resolution(tree, x),
         Step::IsReached(x) => is_reached(alloc, tree, x),
         Step::FilteredPath(i) => filtered_path(alloc, tree, i),
+        Step::LastPath => last_path(alloc, tree),
         Step::Ciphertexts(i, added) => ciphertext_counts(alloc, tree, i, added),
         Step::IsBlank(x) => is_blank(alloc, tree, x),
         Step::ParentHashLength(x) => parent_hash_length(alloc, tree, x),

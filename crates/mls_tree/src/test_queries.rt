@@ -68,6 +68,11 @@ pub(crate) fn filtered_path(
     Ok(widen(alloc, &path)?)
 }
 
+pub(crate) fn last_path(alloc: Global, tree: &PublicTree) -> Result<Vec<u64>, TreeError> {
+    let path = tree.last_path()?;
+    Ok(widen(alloc, &path)?)
+}
+
 pub(crate) fn ciphertext_counts(
     alloc: Global,
     tree: &PublicTree,
@@ -94,18 +99,16 @@ pub(crate) fn parent_hash_length(
 }
 
 fn has_good_lists(tree: &PublicTree) -> bool {
-    array::has_good_lists(&tree.nodes, tree.height)
+    array::has_good_lists(&tree.subtree())
 }
 
 /// Whether the lists are right and each parent is parent-hash valid.
 fn has_good_hashes(alloc: Global, tree: &mut PublicTree) -> Result<bool, AllocError> {
     let _tree_hash = tree.tree_hash();
-    let kept = tree.hashes.as_slice();
-    let nodes = tree.nodes.as_slice();
-    if !array::has_good_lists(nodes, tree.height) {
+    if !array::has_good_lists(&tree.subtree()) {
         return Ok(false);
     }
-    array::has_good_hashes(alloc, nodes, kept, tree.height)
+    array::has_good_hashes(alloc, &tree.hashed_subtree())
 }
 
 pub(crate) fn good(alloc: Global, tree: &mut PublicTree) -> Result<Vec<u64>, TreeError> {

@@ -4,9 +4,8 @@ use Rattle.std.specs.Str.{bytes_eq}
 use Rattle.mls_suite.specs.Crypto.{Crypto}
 use Rattle.mls_tree_model.specs.Way.{Step, is_filtered, way, filtered_path}
 use Rattle.mls_treekem_model.specs.Chain.{next_secret, chain, node_key, node_public}
-use Rattle.mls_treekem_model.specs.Keys.{Keys, PrivateKeys, all_keys}
+use Rattle.mls_treekem_model.specs.Keys.{Keys, PrivateKeys, all_keys, keys_on_way}
 use Rattle.mls_tree_model.specs.Term.{Term, is_perfect}
-use Rattle.mls_treekem_model.specs.Follow.{keys_on_way}
 
 -- A climb goes from a node up to the root, and derives the path secret and the private key of each node on the way (RFC
 -- 9420, 7.4). Where it stands: the path secret of the next node above, and the private keys from there down.

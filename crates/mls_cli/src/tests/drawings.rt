@@ -25,6 +25,7 @@ path{fill:none;stroke:#cbd5e1;stroke-width:2}
 .leaf rect{fill:#dcefe6;stroke:#5f9f83;stroke-width:1.5}
 .parent circle{fill:#dbe7f5;stroke:#6b8fc0;stroke-width:1.5}
 .blank rect,.blank circle{fill:#fff;stroke:#94a3b8;stroke-dasharray:4 3}
+.renewed rect,.renewed circle{stroke-width:4}
 </style>
 <rect x="-16" y="-40" width="100%" height="100%" fill="#fff"/>
 "##;
@@ -59,7 +60,7 @@ const NODES_OF_FIVE: &str =
 <g class="blank leaf" transform="translate(200 216)"><rect x="-22" y="-18" width="44" height="36" rx="9"/><text y="4">4</text><text class="index" y="34">leaf 2</text></g>
 <path d="M200 197V144H280V197"/><g class="blank parent" transform="translate(240 144)"><circle r="18"/><text y="4">5</text></g>
 <g class="leaf" transform="translate(280 216)"><title>ff</title><text class="identity" xml:space="preserve" y="51">ff</text><rect x="-22" y="-18" width="44" height="36" rx="9"/><text y="4">6</text><text class="index" y="34">leaf 3</text></g>
-<path d="M160 53V0H480V53"/><g class="parent" transform="translate(320 0)"><title>unmerged 3 4</title><text class="unmerged" y="33">unmerged</text><text class="unmerged" y="46"> 3 4</text><circle r="18"/><text y="4">7</text></g>
+<path d="M160 53V0H480V53"/><g class="renewed parent" transform="translate(320 0)"><title>unmerged 3 4</title><text class="unmerged" y="33">unmerged</text><text class="unmerged" y="46"> 3 4</text><circle r="18"/><text y="4">7</text></g>
 <g class="leaf" transform="translate(360 216)"><title>&quot;&quot;</title><text class="identity" xml:space="preserve" y="51">&quot;&quot;</text><rect x="-22" y="-18" width="44" height="36" rx="9"/><text y="4">8</text><text class="index" y="34">leaf 4</text></g>
 <path d="M360 197V144H440V197"/><g class="blank parent" transform="translate(400 144)"><circle r="18"/><text y="4">9</text></g>
 <g class="blank leaf" transform="translate(440 216)"><rect x="-22" y="-18" width="44" height="36" rx="9"/><text y="4">10</text><text class="index" y="34">leaf 5</text></g>
@@ -71,8 +72,8 @@ const NODES_OF_FIVE: &str =
 "##;
 
 const NODES_OF_PAIR: &str =
-    r##"<g class="leaf" transform="translate(40 72)"><title>&quot;a&quot;</title><text class="identity" xml:space="preserve" y="51">&quot;a&quot;</text><rect x="-22" y="-18" width="44" height="36" rx="9"/><text y="4">0</text><text class="index" y="34">leaf 0</text></g>
-<path d="M40 53V0H120V53"/><g class="parent" transform="translate(80 0)"><circle r="18"/><text y="4">1</text></g>
+    r##"<g class="renewed leaf" transform="translate(40 72)"><title>&quot;a&quot;</title><text class="identity" xml:space="preserve" y="51">&quot;a&quot;</text><rect x="-22" y="-18" width="44" height="36" rx="9"/><text y="4">0</text><text class="index" y="34">leaf 0</text></g>
+<path d="M40 53V0H120V53"/><g class="renewed parent" transform="translate(80 0)"><circle r="18"/><text y="4">1</text></g>
 <g class="leaf" transform="translate(120 72)"><title>&quot;b&quot;</title><text class="identity" xml:space="preserve" y="51">&quot;b&quot;</text><rect x="-22" y="-18" width="44" height="36" rx="9"/><text y="4">2</text><text class="index" y="34">leaf 1</text></g>
 </svg>
 "##;

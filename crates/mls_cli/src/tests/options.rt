@@ -43,7 +43,7 @@ const PICTURE_OF_FIVE: &str = r#"    ┌─■ 0 "ann"
 │ │ ┌─□ 2
 │ └─○
 │   └─■ 3 ff
-● unmerged 3 4
+●* unmerged 3 4
 │   ┌─■ 4 ""
 │ ┌─○
 │ │ └─□ 5
@@ -60,7 +60,7 @@ const PICTURE_OF_SEVEN: &str = r#"    ┌─■ 0 "ann"
 │ │ ┌─■ 2 "cy"
 │ └─○
 │   └─■ 3 "dee"
-● unmerged 2
+●* unmerged 2
 │   ┌─■ 4 "eve"
 │ ┌─○
 │ │ └─□ 5

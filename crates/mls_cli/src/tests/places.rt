@@ -2,7 +2,7 @@
 
 use crate::arguments::request;
 use crate::serving::serve;
-use crate::tests::options::{ONE, WITH_TREE};
+use crate::tests::options::{FIVE, ONE, WITH_TREE};
 use crate::tests::{KEY_PACKAGE, OUT_OF_MEMORY, TEXT, serve_file, with_room};
 use mls_cli_replay::Silent;
 use mls_cli_text::Out;
@@ -15,6 +15,10 @@ const PARENT_FIRST: &str = "06010201700000";
 /// A GroupInfo with that tree.
 const INFO_WITH_PARENT: &str =
     "000100040001f001016700000000000000000000000a00020706010201700000000000000000";
+
+/// Two members under a root that lists leaf 5.
+const WRONG_LIST: &str =
+    "3c0101010101810001016102000102f0010000020001020001dd010201090004000000050101010201820001016202000102f0010000020001020001dd";
 
 const MISPLACED: &str = "refused: 20 TreeShape\nnode: 0\n";
 
@@ -93,7 +97,9 @@ fn finds_nodes_and_leaves(rt: HostRuntime) -> Result<(), Fail> {
     let check: &[&str] = &["mls", "check", "--where", "FILE"];
     let suite: &[&str] = &["mls", "check", "--where", "FILE", "--suite=0001"];
     let info: &[&str] = &["mls", "check", "--where", "FILE", "--group-info"];
-    let table: [(&[&str], &str, &str); 8] = [
+    let table: [(&[&str], &str, &str); 10] = [
+        (check, WRONG_LIST, "\nrefused: 23 UnmergedWrong\nnode: 1\n"),
+        (check, FIVE, "\nrefused: 24 ParentHashWrong\nnode: 1\n"),
         (check, ONE, "\nrefused: 51 LeafSignature\nleaf: 0\n"),
         (suite, ONE, "\nrefused: 52 LeafCapability\nleaf: 0\n"),
         (info, WITH_TREE, "\nrefused: 51 LeafSignature\nleaf: 0\n"),

@@ -136,7 +136,7 @@ fn prints_trees_of_members(rt: HostRuntime) -> Result<(), Fail> {
         assert!(rt; out.as_slice() == TREE_LINES.as_bytes());
         let (status, out) = serve_file(alloc, draw.as_slice(), tree.as_slice())?;
         assert_eq!(rt; status, 0);
-        assert!(rt; out.as_slice() == "┌─■ 0 \"a\"\n●\n└─■ 1 \"b\"\n".as_bytes());
+        assert!(rt; out.as_slice() == "┌─■*0 \"a\"\n●*\n└─■ 1 \"b\"\n".as_bytes());
     }
     let gone = group_with(alloc, "")?;
     for option in ["--tree=2", "--draw=2"] {
@@ -153,14 +153,14 @@ fn draws_trees_of_members(rt: HostRuntime) -> Result<(), Fail> {
     let alloc = rt.alloc();
     let draw: &[&str] = &["mls", "replay", "FILE", "--draw", "1"];
     let table: [(&[&str], &str, u8, &str); 11] = [
-        (draw, JOIN, 0, "┌─■ 0 \"a\"\n●\n└─■ 1 \"b\"\n"),
+        (draw, JOIN, 0, "┌─■*0 \"a\"\n●*\n└─■ 1 \"b\"\n"),
         // What is expected doesn't count.
-        (draw, EXPECTED, 0, "┌─■ 0 \"a\"\n●\n└─■ 1 \"b\"\n"),
+        (draw, EXPECTED, 0, "┌─■*0 \"a\"\n●*\n└─■ 1 \"b\"\n"),
         (
             &["mls", "replay", "--width=4", "FILE", "--draw=0"],
             JOIN,
             0,
-            "┌─■…\n●\n└─■…\n",
+            "┌─■…\n●*\n└─■…\n",
         ),
         (draw, NOTHING, 1, "refused: 90 NoSuchMember\n"),
         (draw, "{}", 1, BAD_JSON),
