@@ -85,8 +85,9 @@ fn serve_endless(alloc: Global, words: &[&str]) -> Result<(u8, Vec<u8>), AllocEr
 
 #[test]
 fn stops_reading_at_the_limit(rt: HostRuntime) -> Result<(), Fail> {
-    for words in [["mls", "show", "FILE"], ["mls", "check", "FILE"]] {
-        let (status, out) = serve_endless(rt.alloc(), words.as_slice())?;
+    let jobs: [&[&str]; 2] = [&["mls", "show", "FILE", "--raw"], &["mls", "check", "FILE"]];
+    for words in jobs {
+        let (status, out) = serve_endless(rt.alloc(), words)?;
         assert_eq!(rt; status, 1);
         assert!(rt; out.as_slice() == b"refused: 6 TooLong\n".as_slice());
     }

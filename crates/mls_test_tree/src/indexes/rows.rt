@@ -319,7 +319,7 @@ fn count_met_rows(alloc: Global, indexed: &mut Indexed, rows: &[Row]) -> Result<
     Ok(rows.len())
 }
 
-fn indexed(alloc: Global, kind: KeyKind, cells: &[Cell]) -> Result<Box<Indexed>, AllocError> {
+fn index_cells(alloc: Global, kind: KeyKind, cells: &[Cell]) -> Result<Box<Indexed>, AllocError> {
     let cells = slots_of(alloc, cells)?;
     let index_of_cells = index(alloc, kind, &cells)?;
     let copy = index(alloc, kind, &[])?;
@@ -340,6 +340,6 @@ pub(crate) fn count_met(
     cells: &[Cell],
     rows: &[Row],
 ) -> Result<usize, AllocError> {
-    let mut indexed = indexed(alloc, kind, cells)?;
+    let mut indexed = index_cells(alloc, kind, cells)?;
     count_met_rows(alloc, &mut indexed, rows)
 }

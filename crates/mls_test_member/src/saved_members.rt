@@ -1,6 +1,6 @@
 //! Members that are saved and loaded, and saved bytes that were changed.
 
-use crate::group::{Keeping, history, three};
+use crate::saved_group::{Keeping, history, three};
 use mls_member::Member;
 use mls_suite::{Glass, OutOfMemory};
 use std::alloc::Global;
