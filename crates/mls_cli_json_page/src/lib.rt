@@ -78,6 +78,3 @@ pub fn json_page(alloc: Global, page: &Page<Line>) -> Result<Page<JsonText>, All
         ending: json_ending(page.ending),
     })
 }
-
-#[cfg(test)]
-mod tests;

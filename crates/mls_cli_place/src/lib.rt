@@ -37,8 +37,3 @@ pub use rules::{first_incapable, first_misplaced, first_unfit, first_unsigned};
 pub use sent::{breach_of_file, breach_of_group_info};
 pub use step::{GroupField, LeafField, MessageField, Step};
 pub use tree_place::TreePlace;
-
-#[cfg(test)]
-mod rule_tests;
-#[cfg(test)]
-mod tests;

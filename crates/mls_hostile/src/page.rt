@@ -28,22 +28,8 @@ impl Page {
     }
 
     fn secrets(&mut self, epoch: &Epoch) -> Result<(), AllocError> {
-        let external = epoch.external_secret();
-        let resumption = epoch.resumption_psk();
-        let secrets = [
-            epoch.epoch_secret(),
-            epoch.sender_data_secret(),
-            epoch.encryption_secret(),
-            epoch.exporter_secret(),
-            &external,
-            epoch.confirmation_key(),
-            epoch.membership_key(),
-            &resumption,
-            epoch.epoch_authenticator(),
-            epoch.init_secret(),
-        ];
-        for secret in secrets {
-            self.entry(secret)?;
+        for secret in epoch.secrets() {
+            self.entry(&secret)?;
         }
         Ok(())
     }

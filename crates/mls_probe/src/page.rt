@@ -44,21 +44,8 @@ fn print_found(
 
 /// A digest of the ten secrets of an epoch.
 fn print_epoch(rt: &impl Print, alloc: Global, part: &str, epoch: &Epoch) -> Result<()> {
-    let external = epoch.external_secret();
-    let resumption = epoch.resumption_psk();
-    let secrets: [&[u8]; 10] = [
-        epoch.epoch_secret(),
-        epoch.sender_data_secret(),
-        epoch.encryption_secret(),
-        epoch.exporter_secret(),
-        &external,
-        epoch.confirmation_key(),
-        epoch.membership_key(),
-        &resumption,
-        epoch.epoch_authenticator(),
-        epoch.init_secret(),
-    ];
-    print_bytes(rt, alloc, part, "secrets", &hash(&secrets))
+    let secrets = epoch.secrets().concat(alloc)?;
+    print_bytes(rt, alloc, part, "secrets", &hash(&[&secrets]))
 }
 
 /// The private keys of a member.

@@ -452,8 +452,8 @@ module _ (u v : Used) (seen : v ≡ u) where
   no_adds other = ap (λ (w : Used). length (adds (w ∷ []))) (sym seen) ∙ ap length (add_isnt v other)
 
 -- those that are counted, and those to come
-pub adds_more : (us : List Used) (k : ℕ) (u : Used) → k < length us → u ≡ get_or us k u → length (adds (drop k us)) ≡ length (adds (u ∷ [])) + length (adds (drop (k + 1) us))
-adds_more us k u lt at =
+pub adds_from : (us : List Used) (k : ℕ) (u : Used) → k < length us → u ≡ get_or us k u → length (adds (drop k us)) ≡ length (adds (u ∷ [])) + length (adds (drop (k + 1) us))
+adds_from us k u lt at =
     ap (λ (l : List Used). length (adds l)) (here us k u lt at)
     ∙ ap length (adds_split u (drop (k + 1) us))
     ∙ length-append (adds (u ∷ [])) (adds (drop (k + 1) us))

@@ -8,7 +8,7 @@ use Rattle.mls_types.specs.GroupContext.{group_context, group_context_nonempty}
 use Rattle.mls_types.specs.GroupInfo.{ratchet_tree}
 use Rattle.mls_saved.specs.declared.state.SavedState.{SavedState}
 
--- optional<key<V>><V>: the private keys of the nodes over a leaf, the highest first
+-- optional<key<V>><V>: the private keys of the nodes over a leaf, the lowest first
 abbrev pub saved_keys : Format (List (Option (List ℕ)))
 saved_keys = vector (optional byte_string) (optional_nonempty byte_string)
 

@@ -1,6 +1,6 @@
 -- The key schedule (RFC 9420, 8) as functions on lists of bytes. A context is the bytes of a GroupContext, and `epoch`
 -- stands for an epoch secret.
-use Rattle.std.specs.Prelude.{ℕ, List, [], replicate, codes}
+use Rattle.std.specs.Prelude.{ℕ, List, [], ◌∷◌, replicate, codes}
 use Rattle.sha2.specs.Sha256.{sha256}
 use Rattle.mls_kdf.specs.Kdf.{hmac, extract, expand_with_label, derive_secret}
 
@@ -99,6 +99,21 @@ nine_secrets epoch = record {
   authenticator = epoch_authenticator epoch;
   init = init_secret epoch;
 }
+
+-- the ten secrets of an epoch, in the order in which the standard lists them: its own and the nine (RFC 9420, 8)
+unfoldable pub ten_secrets : List ℕ → List (List ℕ)
+ten_secrets epoch =
+    epoch
+    ∷ sender_data_secret epoch
+    ∷ encryption_secret epoch
+    ∷ exporter_secret epoch
+    ∷ external_secret epoch
+    ∷ confirmation_key epoch
+    ∷ membership_key epoch
+    ∷ resumption_psk epoch
+    ∷ epoch_authenticator epoch
+    ∷ init_secret epoch
+    ∷ []
 
 -- ---- what is made of them
 

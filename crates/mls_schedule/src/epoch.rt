@@ -5,7 +5,7 @@ ghost use Rattle.std.specs.Prelude.{◌≡◌, ◌<◌, ◌≤◌, ◌^◌, ◌�
 ghost use Rattle.mls_kdf.specs.Kdf.{joined_pieces, expand_with_label, max_output};
 ghost use Rattle.mls_kdf.specs.Outputs.{Fills};
 ghost use Rattle.mls_schedule.specs.Faults.{IsTooLong};
-ghost use Rattle.mls_schedule.specs.Epoch.{joiner_secret, welcome_secret, welcome_key, welcome_nonce, intermediate_secret, epoch_secret, next_epoch_secret, nine_secrets, confirmation_tag, membership_tag, export_secret};
+ghost use Rattle.mls_schedule.specs.Epoch.{joiner_secret, welcome_secret, welcome_key, welcome_nonce, intermediate_secret, epoch_secret, next_epoch_secret, nine_secrets, ten_secrets, confirmation_tag, membership_tag, export_secret};
 
 use crate::ScheduleError;
 use mls_kdf::{HmacKey, Secret, Seed, derive_secret, expand_with_label, extract, hash, hmac};
@@ -214,6 +214,25 @@ impl Epoch {
         ensures { result.now ≡ (nine_secrets self.now).init }
     {
         &self.init
+    }
+
+    /// The ten secrets, in the order in which RFC 9420, 8 lists them: the epoch secret and the nine that are made of it.
+    #[tactic(auto, unfolding(crate::specs::Epoch::ten_secrets))]
+    pub fn secrets(&self) -> [Secret; 10]
+        ensures { result ≡ ten_secrets self.now }
+    {
+        [
+            self.epoch,
+            self.sender_data,
+            self.encryption,
+            self.exporter,
+            self.external_secret(),
+            self.confirmation,
+            self.membership,
+            self.resumption_psk(),
+            self.authenticator,
+            self.init,
+        ]
     }
 
     /// The tag, of 32 bytes, that confirms a transcript by its confirmed hash (RFC 9420, 6.1).

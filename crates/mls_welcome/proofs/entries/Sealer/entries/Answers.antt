@@ -9,7 +9,7 @@ use Rattle.mls_welcome.proofs.entries.Sealer.entries.Goals as goal
 pub returns-in_err-entry : goal.returns-in_err-entry
 returns-in_err-entry g c =
     λ secrets all.
-    let p = err_from_is_err_and c.from_residual.result c.from_residual.ensures.1 in
+    let p = err_from_is_err_and c.from_residual-in_err-entry.result c.from_residual-in_err-entry.ensures.1 in
     rw (p.1, p.2) (λ other.
     entries_fail g.S.Suite.crypto c.args.encrypted_info.now c.args.self.now.joiner_secret.now (seal_seed c.args.self.now.seed.now) c.args.joiners.now c.args.first
     c.loop-joiner.entries.items c.loop-joiner.number c.loop-joiner.joiner-index c.loop-joiner.invariant.left
