@@ -86,7 +86,7 @@ fn key_of(k: u8) -> u8 {
     k.wrapping_mul(37)
 }
 
-/// A hundred leaves; any two have the same half of their encryption key, rounded down, as their signature key.
+/// A hundred leaves; the signature key of each is half its encryption key, rounded down.
 fn hundred(alloc: Global) -> Result<Vec<Slot>, AllocError> {
     let mut cells = Vec::new(alloc);
     for k in 0..100u8 {

@@ -1,5 +1,5 @@
-//! Worked places, checks of leaves, hashes of nodes, indexes of keys, arrays of nodes, public trees by rows of edits and
-//! of what they answer, and private keys of small trees: tests alone, above the crates that they use.
+//! Worked places, checks of leaves, hashes of nodes, indexes of keys, arrays of nodes, public trees by rows, and
+//! private keys of small trees: tests alone, above the crates that they use.
 #![tactic(auto)]
 
 #[cfg(test)]

@@ -68,8 +68,8 @@ pub(crate) enum Step {
     IsBlank(u32),
     /// How long the parent hash of the parent at this node is.
     ParentHashLength(u32),
-    /// What the tree is refused with in the group "g", or 0, once its nodes are sent and taken in. With 51 its lists are
-    /// right, each parent is parent-hash valid, and no key stands twice.
+    /// What the tree is refused with in the group "g", or 0, once its nodes are sent and taken in. Before 51 stand the
+    /// checks of its lists, parent hashes and keys.
     Check,
     /// How many hashes of nodes the tree hash makes.
     HashesMade,

@@ -1,5 +1,5 @@
-//! Members and small trees, for the rows of tests. They promise nothing: what a test expects is run, and a proof that carried
-//! the clauses of each call would take minutes.
+//! Members and small trees, for the rows of tests. They promise nothing: what a test expects is run, and a proof that
+//! carried the clauses of each call would take minutes.
 
 use mls_leaf::{Bytes, Capabilities, Credential, Items, LeafNode, LeafSource, Node, ParentNode};
 use mls_tree::{PublicTree, TreeError};
