@@ -1,4 +1,4 @@
--- What is asked of one leaf.
+-- What is asked of one leaf (RFC 9420, 7.3).
 use Rattle.std.specs.Prelude.{ℕ, ◌==◌, Bool, true, false, ◌&&◌, List, codes}
 use Rattle.std.specs.List.{list_any}
 use Rattle.std.specs.Str.{bytes_eq}
@@ -21,7 +21,8 @@ abbrev pub has_entry : List ℕ → ℕ → Bool
 has_entry entries x = list_any (λ y. y == x) entries
 
 -- whether the leaf lists version 1 (mls10), the suite and credential type 1 (basic), which is all that a group of this
--- project needs (RFC 9420, 7.2 and 7.3)
+-- project needs (RFC 9420, 7.2 and 7.3). The standard asks a new member to list the types of the group's extensions too
+-- (13.4); here these are for private use, and no leaf has to list them.
 unfoldable pub is_capable : ℕ → LeafNode → Bool
 is_capable suite v =
     has_entry v.capabilities.versions 1 && has_entry v.capabilities.cipher_suites suite

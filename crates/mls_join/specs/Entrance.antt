@@ -37,13 +37,13 @@ welcome_outer_checks number bytes = do
   w ← require_some 70 (welcome_in outer)
   require 71 (w.cipher_suite == number)
 
--- A call makes the candidate the member that the definition does, or refuses with its number. Where memory was refused it
--- says nothing.
+-- A call makes the candidate the member that the definition does, or refuses with its number. Where memory was refused
+-- it says nothing.
 abbrev pub Joins : Candidate → Result JoinedMember ℕ → Result Entrance JoinError → Type 0
 Joins k defined result = Answers (joined_by k) number_of defined result
 
--- The call makes each candidate the member with these keys in this tree, or refuses with the number of what fails, memory
--- aside.
+-- The call makes each candidate the member with these keys in this tree, or refuses with the number of what fails,
+-- memory aside.
 abbrev pub EntersGroup : Opened → Term → PrivateKeys → Result Entrance JoinError → Type 0
 EntersGroup opened t keys result =
     (k : Candidate) → Joins k (enter_group k (opened_by opened) t keys) result

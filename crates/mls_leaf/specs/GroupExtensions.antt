@@ -1,4 +1,5 @@
--- The extensions that a group carries: of types for private use, each type at most once.
+-- The extensions that a group carries (RFC 9420, 8.1 and 13.4): of types for private use alone, which is this project's
+-- profile, and each type at most once.
 use Rattle.std.specs.Prelude.{◌≡◌, ℕ, ◌==◌, nat_le, nat_lt, Bool, true, false, not, ◌&&◌, ◌||◌, List, [], ◌∷◌, length, Result, refl}
 use Rattle.mls_wire.specs.Format.{Format}
 use Rattle.mls_wire.specs.ReadFaults.{HasFaults, pair_faults, seen_answered, guarded_faults, vector_from_faults, byte_string_faults, uint16_faults}

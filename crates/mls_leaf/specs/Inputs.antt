@@ -1,4 +1,5 @@
--- The inputs that are only written, to be hashed or signed: each is its parts in order.
+-- The inputs that are only written, to be hashed or signed (RFC 9420, 7.2, 7.8, 7.9 and 10): each is its parts in
+-- order.
 use Rattle.std.specs.Prelude.{ℕ, ◌<◌, ◌^◌, List, [], ◌++◌, Option}
 use Rattle.std.specs.Int.{w8, w16, w32}
 use Rattle.mls_wire.specs.Reading.{uint, opaque}

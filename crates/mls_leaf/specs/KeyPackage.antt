@@ -1,4 +1,4 @@
--- The format of key packages.
+-- The format of key packages (RFC 9420, 10).
 use Rattle.std.specs.Prelude.{refl}
 use Rattle.std.proofs.Common.{lit<}
 use Rattle.mls_wire.specs.Format.{Format}

@@ -1,4 +1,4 @@
--- The format of parents.
+-- The format of parents (RFC 9420, 7.1).
 use Rattle.std.specs.Prelude.{ℕ, ◌+◌, nat_le, List, length, Result, refl}
 use Rattle.mls_wire.specs.Format.{Format}
 use Rattle.mls_wire.specs.ReadFaults.{HasFaults, pair_faults, seen_answered, guarded_faults, vector_from_faults, byte_string_faults, uint32_faults}

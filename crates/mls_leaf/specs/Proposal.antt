@@ -1,4 +1,4 @@
--- The format of proposals.
+-- The format of proposals (RFC 9420, 12.1).
 use Rattle.std.specs.Prelude.{◌≡◌, ℕ, List, refl}
 use Rattle.std.proofs.Common.{◌⊎◌, inl, inr}
 use Rattle.mls_wire.specs.Format.{Format}
@@ -20,6 +20,7 @@ use Rattle.mls_leaf.specs.declared.proposal.Proposal.TheVariants.{Add, Update, R
 abbrev pub Proposals : Type 0
 Proposals = KeyPackage ⊎ (LeafNode ⊎ (ℕ ⊎ (List Extension ⊎ ⊥)))
 
+-- the proposal of what stands behind its type
 abbrev pub proposal_of_parts : Proposals → declared.Proposal
 proposal_of_parts (inl x) = Add x
 proposal_of_parts (inr (inl x)) = Update x

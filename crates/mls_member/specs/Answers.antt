@@ -31,7 +31,8 @@ use Rattle.mls_member.specs.declared.join.Joined.{Joined}
 abbrev pub messages_of : Made → List ℕ × Option (List ℕ)
 messages_of made = (made.commit.items, option_map (λ v. v.items) made.welcome)
 
--- what a commit call made of a list reaches the group (RFC 9420, 12.4): the committer, the others, and those that it adds
+-- what a commit call made of a list reaches the group (RFC 9420, 12.4): the committer, the others, and those that it
+-- adds
 abbrev pub ReachesAll : Crypto → Member → Member → List ProposalOrRef → Made → Type 0
 ReachesAll c maker after list made =
     ReachesGroup c maker after list made.commit.items (option_map (λ v. v.items) made.welcome)

@@ -51,9 +51,9 @@ sets_extensions k = is_some (extensions_in k.proposal)
 
 -- ---- which go together
 
--- of the member at leaf me, that keeps all of these: whether it leaves out a proposal, behind which stand later ones. It
--- leaves out its own update and its own removal, an update of a leaf that is removed, and of several proposals that change
--- one leaf, add one client or set the extensions, all but the last (RFC 9420, 12.2)
+-- of the member at leaf me, that keeps all of these: whether it leaves out a proposal, behind which stand later ones.
+-- It leaves out its own update and its own removal, an update of a leaf that is removed, and of several proposals that
+-- change one leaf, add one client or set the extensions, all but the last (RFC 9420, 12.2)
 abbrev pub gives_way : ℕ → List KeptProposal → List KeptProposal → ℕ → Proposal → Bool
 gives_way me all later sender (Add offered) = list_any (adds offered.leaf_node.signature_key) later
 gives_way me all later sender (Update leaf) =
@@ -61,6 +61,7 @@ gives_way me all later sender (Update leaf) =
 gives_way me all later sender (Remove leaf) = (leaf == me) || list_any (removes leaf) later
 gives_way me all later sender (GroupContextExtensions list) = list_any sets_extensions later
 
+-- the same of a kept proposal, with its sender
 abbrev pub is_left_out : ℕ → List KeptProposal → List KeptProposal → KeptProposal → Bool
 is_left_out me all later k = gives_way me all later k.sender k.proposal
 
@@ -89,6 +90,7 @@ left_out_of m = map (λ (k : KeptProposal). k.reference) (apart m.keys.leaf m.ke
 
 -- ---- the call
 
+-- the messages of such a commit: its own, and that of its Welcome where there is one
 abbrev pub kept_messages : KeptCommit → List ℕ × Option (List ℕ)
 kept_messages x = messages_of x.made
 

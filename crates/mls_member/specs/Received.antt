@@ -121,8 +121,8 @@ abbrev pub KeepsNew : Crypto → List ℕ → ℕ → List ℕ → Proposal → 
 KeepsNew c reference sender bytes proposal old new result =
     Does (new_proposal c old reference sender bytes proposal) old new result
 
--- The call does what the message with this proposal says, or refuses with the number of the first check that fails, memory
--- aside.
+-- The call does what the message with this proposal says, or refuses with the number of the first check that fails,
+-- memory aside.
 abbrev pub TakesProposal : Crypto → PublicMessageView → List ℕ → List ℕ → Member → Member →
     Result Effect Refusal → Type 0
 TakesProposal c view bytes part old new result =
@@ -148,8 +148,8 @@ OpensPath c e committer path keys context result =
     (opened_path c context e.added e.tree committer keys.leaf (keys_on e.tree keys) path.nodes)
     result
 
--- The call answers what a commit makes of the public state and whether it removes the member, or refuses with the number of
--- the first check that fails, memory aside.
+-- The call answers what a commit makes of the public state and whether it removes the member, or refuses with the
+-- number of the first check that fails, memory aside.
 abbrev pub ChecksCommit : Crypto → Member → ℕ → Commit → List ℕ → List ℕ →
     Result (Outcome × Bool) Refusal → Type 0
 ChecksCommit c m committer commit said signature result =
@@ -186,7 +186,8 @@ FollowsCommit c committer commit said signature tag old new result =
     (content : FramedContent) → framed_content.spell content ≡ said →
     Does (follow_commit c old committer commit content signature tag) old new result
 
--- The call follows the commit that a message shows, or refuses with the number of the first check that fails, memory aside.
+-- The call follows the commit that a message shows, or refuses with the number of the first check that fails, memory
+-- aside.
 abbrev pub TakesCommit : Crypto → PublicMessageView → List ℕ → List ℕ → Member → Member →
     Result Effect Refusal → Type 0
 TakesCommit c view proposals path old new result =

@@ -75,6 +75,7 @@ Saves v (Err e) = Refuses (FitsInput v) e
 
 -- ---- loading
 
+-- whether a saved member was removed
 abbrev pub is_removed : Standing → Bool
 is_removed Present = false
 is_removed Removed = true
@@ -100,6 +101,7 @@ load_pending c p = do
   s ← load_state c p.state
   Ok (record { message = p.message; public = s.group; epoch_secret = s.epoch; keys = s.keys })
 
+-- a pending commit, where one was saved
 abbrev pub load_if_pending : Crypto → Option SavedPending → Result (Option Pending) ℕ
 load_if_pending c None = Ok None
 load_if_pending c (Some p) = load_pending c p >>= λ q. Ok (Some q)

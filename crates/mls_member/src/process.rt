@@ -44,7 +44,8 @@ impl<S: Suite> Member<S> {
         ensures good { IsGoodMember S.crypto self.old → IsGoodMember S.crypto self.new }
         ensures gone { self.old.gone ≡ true → result ≡ Err Gone }
         ensures own { FollowsPendingOutright self.old bytes.now result }
-        // Of other bytes, faults of decoding and 41 to 46 come also when an allocation fails.
+        // Of other bytes, faults of decoding and `NotPublicMessage` (41) to `BadMembershipTag` (46) come also when an
+        // allocation fails.
         ensures outright { RefusesOthers self.old bytes.now result }
     {
         if self.gone {

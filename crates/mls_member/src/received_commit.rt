@@ -282,8 +282,9 @@ impl<S: Suite> Member<S> {
     }
 
     /// Follows a commit: `EpochEnd` (66) no epoch comes after this, `UnknownReference` (60) a reference isn't kept,
-    /// then the checks of all that is public. There a member that is removed stops; others take the path's secret, 32
-    /// to 34, and `BadConfirmationTag` (65) where the confirmation tag isn't that of the new epoch (RFC 9420, 12.4.2).
+    /// then the checks of all that is public. There a member that is removed stops; others take the path's secret,
+    /// `OpenFailed` (32) to `PathKeyMismatch` (34), and `BadConfirmationTag` (65) where the confirmation tag isn't that
+    /// of the new epoch (RFC 9420, 12.4.2).
     pub(crate) fn commit_verdict(
         &mut self,
         view: &PublicMessageView<'_>,

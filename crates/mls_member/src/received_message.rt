@@ -16,7 +16,7 @@ impl<S: Suite> Member<S> {
     /// content (RFC 9420, 6).
     pub(crate) fn bytes_verdict(&mut self, bytes: &[u8]) -> Result<Effect, Refusal>
         ensures verdict { TakesBytes S.crypto bytes.now self.old self.new result }
-        // Decoding, and 41 to 46, come also when an allocation fails.
+        // Decoding, and `NotPublicMessage` (41) to `BadMembershipTag` (46), come also when an allocation fails.
         ensures outright { RefusesOutright number_of (message_outer_checks self.old bytes.now)
             result }
     {

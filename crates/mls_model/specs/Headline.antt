@@ -134,8 +134,8 @@ abbrev pub IsGiven : Source → List ℕ → Type 0
 IsGiven (Given supplied) bytes = supplied.items ≡ bytes
 IsGiven (Message n) bytes = ⊥
 
--- a candidate that a commit adds joins by the bytes of the commit's Welcome too, with the journal of the first such
--- Welcome that has these bytes
+-- a candidate that a commit adds joins by the bytes of the commit's Welcome too: with the maker's journal, the entry
+-- and the epoch secret of the first commit that adds it by a Welcome of these bytes
 abbrev pub JoinsByBytes : Crypto → World → Type 0
 JoinsByBytes c w = (i n number : ℕ) (bytes : List ℕ) (source : Source) (d : CommitMade) (e : Entrant) →
     slice_get w.commits i ≡ Some d → d.welcome ≡ Some (number, bytes) →
@@ -162,7 +162,7 @@ RefusalsChangeNothing c w = (e : Event) (n : ℕ) → (step c w e).0 ≡ Refused
 
 -- ---- what deliveries and joins leave as it was
 
--- other members than k, all candidates and messages, and the record of what was made stay as they were
+-- other members than k, all candidates and messages, and the commits that were made stay as they were
 pub record KeepsOthers (w v : World) (k : ℕ) : Type 0 where
   pub count : length v.seats ≡ length w.seats
   pub seats : (i : ℕ) → i ≢ k → slice_get v.seats i ≡ slice_get w.seats i
@@ -174,7 +174,7 @@ pub record KeepsOthers (w v : World) (k : ℕ) : Type 0 where
 abbrev pub DeliveriesKeepOthers : Crypto → World → Type 0
 DeliveriesKeepOthers c w = (k : ℕ) (source : Source) → KeepsOthers w (step c w (Deliver k source)).1 k
 
--- all members, other candidates than n, all messages, and the record of what was made stay as they were
+-- all members, other candidates than n, all messages, and the commits that were made stay as they were
 pub record KeepsMembers (w v : World) (n : ℕ) : Type 0 where
   pub seats : (i : ℕ) → i < length w.seats → slice_get v.seats i ≡ slice_get w.seats i
   pub entrants : (i : ℕ) → i ≢ n → slice_get v.entrants i ≡ slice_get w.entrants i

@@ -1,6 +1,6 @@
 -- What a candidate does with a Welcome (RFC 9420, 12.4.3.1): the first check that fails, by its number, or the new
--- member and the GroupInfo that was opened. Whether the candidate is in a group of this id already, which the standard
--- asks too, is for the caller to know.
+-- member and the GroupInfo that was opened. Whether the candidate is in a group of this id already, and whether it
+-- supports the group's extensions, which the standard asks too (12.4.3.1 and 13.4), is for the caller to know.
 use Rattle.std.specs.Prelude.{ℕ, Bool, false, not, List, [], codes, find, Option, Some, None, Result, Ok}
 use Rattle.std.specs.Str.{bytes_eq}
 use Rattle.mls_wire.specs.Checks.{Passed, require, require_some, ◌>>◌}
@@ -30,8 +30,8 @@ use Rattle.mls_model.specs.OpenedWelcome.{Opened, opened_welcome}
 
 -- ---- the group that it tells of
 
--- the tree of a GroupInfo: `NoTree` (76) there is none, `TreeShape` (20) and `TreeFull` (21), `TreeHashWrong` (77), then
--- the checks of a whole tree (RFC 9420, 12.4.3.1 and 12.4.3.3)
+-- the tree of a GroupInfo: `NoTree` (76) there is none, `TreeShape` (20) and `TreeFull` (21), `TreeHashWrong` (77),
+-- then the checks of a whole tree (RFC 9420, 12.4.3.1 and 12.4.3.3)
 unfoldable pub joined_tree : Crypto → GroupInfo → Result Term ℕ
 joined_tree c info = do
   nodes ← require_some 76 info.ratchet_tree
@@ -41,7 +41,8 @@ joined_tree c info = do
   Ok t
 
 -- the checks of a GroupInfo's signer: `SignerWrong` (78) it is no member, or the candidate itself, whose way would
--- never part from the signer's; `GroupInfoSignature` (79) its signature (RFC 9420, 12.4.3.1)
+-- never part from the signer's (of this the standard says nothing); `GroupInfoSignature` (79) its signature (RFC 9420,
+-- 12.4.3.1)
 unfoldable pub signer_checks : Crypto → Candidate → GroupInfo → Term → Result Passed ℕ
 signer_checks c k info t = do
   signer ← require_some 78 (leaf_of t info.signer)

@@ -1,4 +1,4 @@
--- What members sign, tag and hash of their messages.
+-- How members decode messages, and what they sign, tag and hash of them (RFC 9420, 6).
 use Rattle.std.specs.Prelude.{ℕ, nat_lt, nat_le, Bool, true, false, ◌&&◌, List, [], length, codes, Option, Some, None, Result}
 use Rattle.std.specs.List.{list_all}
 use Rattle.mls_wire.specs.Checks.{Passed, require}
@@ -51,7 +51,7 @@ public_in other = None
 abbrev pub sender_leaf : Sender → ℕ
 sender_leaf (sender.Member leaf) = leaf
 
--- whether a content is a proposal or a commit
+-- whether a content is a proposal or a commit (RFC 9420, 6)
 abbrev pub is_handshake : SignedBody → Bool
 is_handshake (body.Application text) = false
 is_handshake other = true

@@ -40,6 +40,7 @@ pub record IsProposal (c : Crypto) (m : Member) (bytes : List ℕ) (v : PublicMe
   pub is_taken : IsTaken c m bytes v
   pub says : v.content.body ≡ body_of.Proposal said
 
+-- the bytes are such a message with a commit, and this is its confirmation tag
 pub record IsCommit (c : Crypto) (m : Member) (bytes : List ℕ) (v : PublicMessage) (commit : Commit)
     (tag : List ℕ) : Type 0 where
   pub is_taken : IsTaken c m bytes v
@@ -58,6 +59,7 @@ pub record IsChanging (c : Crypto) (m : Member) (v : SignedContent) (commit : Co
 
 -- ---- the five ways in which bytes are taken
 
+-- a member takes bytes with this effect, and with this member after it
 pub data Taking (c : Crypto) (m : Member) (bytes : List ℕ) (x : Effect × Member) : Type 0 where
   follows_own : m.gone ≡ false → DidPending m bytes x → Taking c m bytes x
   knows : (v : PublicMessage) (said : Proposal) → IsProposal c m bytes v said → WasKnown m v.content x →
@@ -76,12 +78,14 @@ abbrev pub TakenSo : Type 0
 TakenSo = (c : Crypto) (m : Member) (bytes : List ℕ) (x : Effect × Member) → verdict c m bytes ≡ Ok x →
     Taking c m bytes x
 
+-- and wherever one of these ways is there, a verdict takes them so
 abbrev pub SoTaken : Type 0
 SoTaken = (c : Crypto) (m : Member) (bytes : List ℕ) (x : Effect × Member) → Taking c m bytes x →
     verdict c m bytes ≡ Ok x
 
 -- ---- the ten in which they are refused
 
+-- a member refuses bytes with this number
 pub data Refusing (c : Crypto) (m : Member) (bytes : List ℕ) (n : ℕ) : Type 0 where
   -- the member was removed
   gone : m.gone ≡ true → n ≡ 40 → Refusing c m bytes n
@@ -127,5 +131,6 @@ pub data Refusing (c : Crypto) (m : Member) (bytes : List ℕ) (n : ℕ) : Type 
 abbrev pub RefusedSo : Type 0
 RefusedSo = (c : Crypto) (m : Member) (bytes : List ℕ) (n : ℕ) → verdict c m bytes ≡ Err n → Refusing c m bytes n
 
+-- and wherever one of these is there, a verdict refuses them so
 abbrev pub SoRefused : Type 0
 SoRefused = (c : Crypto) (m : Member) (bytes : List ℕ) (n : ℕ) → Refusing c m bytes n → verdict c m bytes ≡ Err n

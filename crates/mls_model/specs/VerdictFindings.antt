@@ -52,6 +52,7 @@ pub record WasKnown (m : Member) (v : SignedContent) (x : Effect × Member) : Ty
   pub kept : is_some (kept_under m.kept (reference_of v)) ≡ true
   pub is : (Known (reference_of v), m) ≡ x
 
+-- the proposal of a message was new, passed its checks, and is kept
 pub record IsNowKept (c : Crypto) (m : Member) (v : SignedContent) (bytes : List ℕ) (said : Proposal)
     (x : Effect × Member) : Type 0 where
   pub fresh : is_some (kept_under m.kept (reference_of v)) ≡ false

@@ -27,7 +27,8 @@ use Rattle.mls_model.specs.World.{World, Entrant, Seat, with_member, with_new_me
 
 -- ---- candidates and groups
 
--- a new candidate: `CandidateRepeated` (93) a candidate has the signature key already
+-- a new candidate (RFC 9420, 10): `CandidateRepeated` (93) a candidate has the signature key already, then the refusals
+-- of `new_candidate`
 unfoldable pub candidate_answer : Crypto → World → List ℕ → List ℕ → Result (Reply × World) ℕ
 candidate_answer c w identity seed = do
   require 93 (not (list_any (λ (e : Entrant).
@@ -42,7 +43,7 @@ candidate_answer c w identity seed = do
   )
 
 -- a candidate becomes the only member of a new group (RFC 9420, 11), and its journal begins: `NoSuchCandidate` (92) no
--- such candidate, `CandidateSpent` (91) a spent one
+-- such candidate, `CandidateSpent` (91) a spent one, then the refusals of `create_group`
 unfoldable pub create_answer : Crypto → World → ℕ → List ℕ → List ℕ → Result (Reply × World) ℕ
 create_answer c w n group seed = do
   e ← entrant_at w n
@@ -62,7 +63,7 @@ proposal_answer w k s x = (
 )
 
 -- a member proposes to add the KeyPackage of a source (RFC 9420, 12.1.1): `NoSuchMember` (90) no such member, then the
--- refusals of `package_of`
+-- refusals of `package_of` and of `propose_add`
 unfoldable pub propose_add_answer : Crypto → World → ℕ → Source → Result (Reply × World) ℕ
 propose_add_answer c w k source = do
   s ← seat_at w k
@@ -112,7 +113,7 @@ commit_messages made None = made.commit ∷ []
 commit_messages made (Some welcome) = made.commit ∷ (welcome ∷ [])
 
 -- a member makes a commit of what its list stands for (RFC 9420, 12.4.1) and has it as pending, and the world has the
--- messages and the record: `NoSuchMember` (90) no such member, then the refusals of `items_of`
+-- messages and the record: `NoSuchMember` (90) no such member, then the refusals of `items_of` and of `make`
 unfoldable pub commit_answer : Crypto → World → ℕ → List WorldItem → Bool → List ℕ → Result (Reply × World) ℕ
 commit_answer c w k items path seed = do
   s ← seat_at w k

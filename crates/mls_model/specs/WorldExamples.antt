@@ -105,7 +105,7 @@ one_seated k s = record {
   commits = [];
 }
 
--- a world answers 91 before 94, and 94 before what the member says
+-- a world answers `CandidateSpent` (91) before `NoSuchMessage` (94), and this before what the member says
 abbrev pub WorldFirst : Type 0
 WorldFirst = (c : Crypto) (k : Candidate) (s : Seat) →
     replies c (one_seated k s)

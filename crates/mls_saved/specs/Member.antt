@@ -18,11 +18,13 @@ use Rattle.mls_saved.specs.declared.member.SavedMember.{SavedMember}
 abbrev pub Standings : Type 0
 Standings = Unit {0} ⊎ (Unit {0} ⊎ ⊥)
 
+-- the standing of its place in the list
 abbrev pub make_standing : Standings → standings.Standing
 make_standing (inl x) = Present
 make_standing (inr (inl x)) = Removed
 make_standing (inr (inr x)) = absurd x
 
+-- the place of a standing in the list
 abbrev pub standing_parts : standings.Standing → Standings
 standing_parts Present = inl tt
 standing_parts Removed = inr (inl tt)

@@ -75,20 +75,22 @@ unfoldable pub last_of : Tree → List Called → Tree
 last_of old [] = old
 last_of old (c ∷ calls) = last_of c.after calls
 
--- how many of them are edits
+-- one where a call is an edit
 abbrev pub one_edit : Call → ℕ
 one_edit Asks = 0
 one_edit (Edits t i) = 1
 
+-- how many of some calls are edits
 unfoldable pub edits : List Called → ℕ
 edits [] = 0
 edits (c ∷ calls) = one_edit c.call + edits calls
 
--- how many nodes their doublings add
+-- how many nodes a call adds where it doubles the tree
 abbrev pub one_doubling : Tree → Call → Tree → ℕ
 one_doubling old Asks new = 0
 one_doubling old (Edits t i) new = size (term new) - size (term old)
 
+-- how many nodes the doublings of some calls add
 unfoldable pub doubled : Tree → List Called → ℕ
 doubled old [] = 0
 doubled old (c ∷ calls) = one_doubling old c.call c.after + doubled c.after calls

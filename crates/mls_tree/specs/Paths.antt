@@ -13,7 +13,7 @@ use Rattle.mls_tree_model.specs.Merge.{merge_path, path_parent_hash}
 use Rattle.mls_tree.specs.Tree.{member_at}
 
 -- `NoSuchLeaf` (22) where no member is at leaf i, then `PathLength` (30) where there aren't as many keys as its
--- filtered path has parents
+-- filtered path has parents (RFC 9420, 7.6)
 unfoldable pub path_checks : Term → ℕ → ℕ → Result Passed ℕ
 path_checks t i n = member_at t i >>= λ v. require 30 (n == path_length 0 t i)
 

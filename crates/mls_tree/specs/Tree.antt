@@ -22,7 +22,7 @@ pub record Tree : Type 0 where
 abbrev pub term : Tree → Term
 term t = term_of t.height t.nodes
 
--- the most leaves of a tree
+-- the most leaves of a tree, which is this project's choice
 abbrev pub max_leaves : ℕ
 max_leaves = 2 ^ max_height
 

@@ -32,7 +32,7 @@ abbrev pub parent_cell : Option Parent → Option Node
 parent_cell None = None
 parent_cell (Some p) = Some (in_parent p)
 
--- the tree of height h whose nodes stand in a list: the root is in the middle
+-- the tree of height h whose nodes stand in a list: the root is in the middle (RFC 9420, appendix C)
 unfoldable pub term_of : ℕ → List (Option Node) → Term
 term_of zero xs = Leaf (leaf_in (slice_index_or xs 0 None))
 term_of (suc h) xs =
@@ -40,7 +40,7 @@ term_of (suc h) xs =
     (term_of h (take (nodes_in h) xs))
     (term_of h (drop (suc (nodes_in h)) xs))
 
--- the nodes of a tree in order
+-- the nodes of a tree in order (RFC 9420, appendix C)
 unfoldable pub in_order : Term → List (Option Node)
 in_order (Leaf v) = leaf_cell v ∷ []
 in_order (Branch c l r) = in_order l ++ (parent_cell c ∷ in_order r)
@@ -98,7 +98,7 @@ sent_term xs = term_of (height_for (length xs)) (with_padding xs)
 
 -- the tree that nodes stand for, with the checks of its shape and size: `TreeShape` (20) without a last node that
 -- isn't blank, with a leaf or a parent out of its place, or without a member in the right half; `TreeFull` (21) where
--- it is too large
+-- it is too large (RFC 9420, 7.7 and 12.4.3.3)
 unfoldable pub from_nodes : ℕ → List (Option Node) → Result Term ℕ
 from_nodes limit xs =
     require 20 (has_last xs)

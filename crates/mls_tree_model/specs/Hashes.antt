@@ -1,4 +1,4 @@
--- Tree hashes, original siblings, parent hashes and their validity.
+-- Tree hashes, original siblings, parent hashes and their validity (RFC 9420, 7.8 and 7.9).
 use Rattle.std.specs.Prelude.{ℕ, ◌+◌, ◌*◌, ◌==◌, nat_lt, Bool, false, not, ◌&&◌, ◌||◌, if◌then◌else◌, List, filter, Option, Some, None}
 use Rattle.std.specs.List.{list_any}
 use Rattle.mls_leaf.specs.Parent.{Parent}

@@ -1,4 +1,4 @@
--- The secrets of a path, and the key pairs that they give.
+-- The secrets of a path, and the key pairs that they give (RFC 9420, 7.4).
 use Rattle.std.specs.Prelude.{ℕ, zero, suc, List, [], ◌∷◌, ◌++◌, codes, map}
 use Rattle.mls_kdf.specs.Kdf.{derive_secret}
 use Rattle.mls_suite.specs.Crypto.{Crypto}
@@ -32,6 +32,7 @@ unfoldable pub chain_keys : Crypto → List ℕ → ℕ → List (List ℕ)
 chain_keys c start zero = []
 chain_keys c start (suc k) = node_public c (chain start k) ∷ chain_keys c start k
 
--- the keys of a path for leaf i
+-- the public keys of the path of leaf i of a whole tree, from its first path secret, the lowest node's first (RFC 9420,
+-- 7.4 and 7.5)
 abbrev pub keys_of_path : Crypto → Term → ℕ → List ℕ → List (List ℕ)
 keys_of_path c t i start = map (node_public c) (path_secrets start (path_length 0 t i))

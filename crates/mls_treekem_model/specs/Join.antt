@@ -1,4 +1,4 @@
--- What a joiner takes from a path secret.
+-- What a joiner takes from a path secret (RFC 9420, 12.4.3.1).
 use Rattle.std.specs.Prelude.{◌≡◌, ℕ, nat_lt, not, ◌&&◌, ◌||◌, if◌then◌else◌, Bool, true, false, List, [], ◌∷◌, Option, Some, None, is_some, Result, Ok, Err}
 use Rattle.std.specs.Str.{bytes_eq}
 use Rattle.mls_wire.specs.Reading.{◌>>=◌}

@@ -96,7 +96,7 @@ keys_on_way (s ∷ ss) ks = key_above (suc (length ss)) ks ∷ keys_on_way ss ks
 abbrev pub keys_on : Term → PrivateKeys → Keys
 keys_on t p = keys_on_way (way 0 t p.leaf) (all_keys p)
 
--- a member's keys are exact on its way in a whole tree, and none is higher
+-- a member's keys are exact on its way in a whole tree, and none is higher (RFC 9420, 7.5 and 7.6)
 pub record HasExact (c : Crypto) (t : Term) (p : PrivateKeys) : Type 0 where
   pub keys : Exact c 0 t p.leaf (keys_on t p)
   pub low : length p.above ≤ length (way 0 t p.leaf)

@@ -1,4 +1,4 @@
--- The secrets and keys of a new path.
+-- A climb from a node to the root, and what a committer has of a new path (RFC 9420, 7.4 and 7.5).
 use Rattle.std.specs.Prelude.{ℕ, suc, Bool, true, false, List, [], ◌∷◌, Option, Some, None, ◌≡◌, ◌≤◌, length, if◌then◌else◌, Result, Ok, Err}
 use Rattle.std.specs.Str.{bytes_eq}
 use Rattle.mls_suite.specs.Crypto.{Crypto}
@@ -33,7 +33,7 @@ abbrev pub key_if : Bool → List ℕ → Option (List ℕ)
 key_if true k = Some k
 key_if false k = None
 
--- the committer's private keys, from its leaf's and the first path secret: at each filtered parent that of its path
+-- the committer's private keys, from the first path secret and its leaf's key: at each filtered parent that of its path
 -- secret (RFC 9420, 7.5)
 unfoldable pub made_keys : Crypto → List Step → List ℕ → List ℕ → Keys
 made_keys c [] start sk = Some sk ∷ []

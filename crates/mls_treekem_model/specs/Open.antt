@@ -1,4 +1,4 @@
--- What a receiver takes from a path.
+-- What a receiver takes from a path (RFC 9420, 7.5 and 7.6).
 use Rattle.std.specs.Prelude.{ℕ, ◌==◌, if◌then◌else◌, Bool, true, false, List, [], ◌∷◌, length, reverse, codes, Option, Some, None, Result, Ok, Err}
 use Rattle.mls_wire.specs.Reading.{◌>>=◌}
 use Rattle.mls_wire.specs.Checks.{require_some}

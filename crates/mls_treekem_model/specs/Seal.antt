@@ -1,4 +1,4 @@
--- The path that a committer sends: each secret sealed to those who need it.
+-- The path that a committer sends: each secret sealed to those who need it (RFC 9420, 7.6).
 use Rattle.std.specs.Prelude.{◌≡◌, ℕ, suc, ◌+◌, if◌then◌else◌, Bool, true, false, List, [], ◌∷◌, length, reverse, codes, Option, Some, None, Result}
 use Rattle.std.specs.Option.{option_map}
 use Rattle.mls_wire.specs.Checks.{require_some}

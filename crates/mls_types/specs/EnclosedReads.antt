@@ -1,4 +1,5 @@
--- Inputs of their own, as the content of a vector: what reading them to their end gives.
+-- Inputs of their own, as the content of a vector: what reading them to their end gives (RFC 9420, 2.1.2 and
+-- 12.4.3.3).
 use Rattle.std.specs.Prelude.{◌≡◌, ℕ, ◌==◌, List, [], length, Option, Some, None, Result, Ok, Err, if◌then◌else◌}
 use Rattle.std.specs.Int.{w16}
 use Rattle.mls_wire.specs.Reading.{◌>>=◌, uint_at}

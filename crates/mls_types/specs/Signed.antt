@@ -1,5 +1,6 @@
 -- The format of signed contents: a framed content and its FramedContentAuthData (RFC 9420, 6 and 6.1).
--- There is a confirmation tag only where the content is a commit: so the cases go over all fields from the content's type on.
+-- There is a confirmation tag only where the content is a commit: so the cases go over all fields from the content's
+-- type on.
 use Rattle.std.specs.Prelude.{◌≡◌, ℕ, List, refl}
 use Rattle.std.proofs.Common.{◌⊎◌, inl, inr}
 use Rattle.mls_wire.specs.Format.{Format}
@@ -42,6 +43,7 @@ tail_of (Commit made tag) signature = inr (inr (inl (made, (signature, tag))))
 abbrev pub tail_parts : Tail → Tails
 tail_parts v = tail_of v.0 v.1
 
+-- what is said and the signature, as one value
 abbrev tail_at : SignedBody → List ℕ → Tail
 tail_at body signature = (body, signature)
 
