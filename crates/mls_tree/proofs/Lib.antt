@@ -21,7 +21,6 @@ pub mod Pathing
 pub mod Passing
 pub mod Fitting
 pub mod Checked
-pub mod Halves
 pub mod EditsKeepGood
 pub mod KeptHashes
 pub mod Costs

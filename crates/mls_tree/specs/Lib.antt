@@ -15,4 +15,3 @@ pub mod PathDraft
 pub mod PathMerging
 pub mod ArrayEdits
 pub mod Checking
-pub mod TestTrees
