@@ -28,8 +28,9 @@ impl Page {
     }
 
     fn secrets(&mut self, epoch: &Epoch) -> Result<(), AllocError> {
-        for secret in epoch.secrets() {
-            self.entry(&secret)?;
+        let secrets = epoch.secrets();
+        for secret in &secrets {
+            self.entry(secret)?;
         }
         Ok(())
     }
