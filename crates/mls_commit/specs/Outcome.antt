@@ -1,5 +1,5 @@
 -- Where a commit leads.
-use Rattle.std.specs.Prelude.{◌≡◌, ◌≤◌, ◌^◌, ℕ, Bool, true, List, Option, IfSome, Result}
+use Rattle.std.specs.Prelude.{◌≡◌, ◌==◌, ◌≤◌, ◌^◌, ◌&&◌, ℕ, Bool, true, List, length, Option, is_some, IfSome, Result}
 use Rattle.mls_wire.specs.Checks.{Answers}
 use Rattle.mls_leaf.specs.Leaf.{leaf_node}
 use Rattle.mls_leaf.specs.declared.extension.Extension.{Extension}
@@ -23,6 +23,11 @@ pub record Outcome : Type 0 where
 -- if its tree is the group's own, the commit edited nothing of the group's tree
 abbrev pub KeepsOwnTree : Term → Outcome → Type 0
 KeepsOwnTree t o = o.on_own ≡ true → o.change.edits.tree ≡ t
+
+-- its tree is the group's own, of which nothing is copied, where the commit has a path and uses no proposal, and only
+-- there
+abbrev pub MergesIntoOwn : List Used → Option UpdatePath → Outcome → Type 0
+MergesIntoOwn used path o = o.on_own ≡ (is_some path && (length used == 0))
 
 -- its change is that with these extensions, these edits and this tree
 abbrev pub HasChange : PublicState → List Extension → Edits → Term → List ℕ → List ℕ → Outcome →

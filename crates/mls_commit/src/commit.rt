@@ -1,15 +1,14 @@
 //! The checks of a commit, and where it leads.
 
-ghost use Rattle.std.specs.Prelude.{◌≡◌, ◌<◌, ◌^◌, ◌+◌, ◌||◌, true, not, is_some, length, IfOk, IfSome};
+ghost use Rattle.std.specs.Prelude.{◌≡◌, ◌<◌, ◌^◌, ◌+◌, ◌||◌, ◌&&◌, not, is_some, length, IfOk, IfSome};
 ghost use Rattle.mls_leaf.specs.GroupExtensions.{group_extensions};
 ghost use Rattle.mls_leaf.specs.Leaf.{leaf_node};
 ghost use Rattle.mls_model.specs.Proposals as proposals;
 ghost use Rattle.mls_public_group.specs.NextTree.{is_merged, IsPreparedFor};
 ghost use Rattle.mls_public_group.specs.Short.{IsBelow, AreBelow, IsShortContext};
-ghost use Rattle.mls_commit.specs.Outcome.{KeepsOwnTree, Changes, HasTreesShortAs};
+ghost use Rattle.mls_commit.specs.Outcome.{KeepsOwnTree, MergesIntoOwn, Changes, HasTreesShortAs};
 ghost use Rattle.mls_commit.specs.PathChecks.{StaysMember};
-ghost use Rattle.mls_commit.specs.PathMerge.{AppliesPathIf};
-ghost use Rattle.mls_commit.specs.declared.path.PathBase.TheVariants.{GroupTree};
+ghost use Rattle.mls_commit.specs.PathMerge.{is_own, AppliesPathIf};
 
 use crate::error::CommitError;
 use crate::outcome::Outcome;
@@ -41,7 +40,7 @@ fn apply_path_if<S: Suite>(
     requires path { IfSome path.now (λ p. IsBelow (2 ^ 28) leaf_node p.leaf_node) }
     ensures answer { AppliesPathIf S.crypto group.now committer edits.now path.now result }
     ensures follows { IfOk result (IsPreparedFor edits.now.tree) }
-    ensures own { IfOk result (λ t. is_merged t ≡ true → base ≡ GroupTree) }
+    ensures own { IfOk result (λ t. is_merged t ≡ (is_some path.now && is_own base)) }
 {
     match path {
         None => Ok(NextTree::Edited(edits.tree.clone()?)),
@@ -75,6 +74,8 @@ pub fn change_of_commit<S: Suite>(
     ensures below { IfOk result (λ o. HasTreesShortAs used.now commit.now.path o.change) }
     // A path is prepared for the group's own tree only where no proposal changes that.
     ensures own { IfOk result (KeepsOwnTree group.now.tree) }
+    // A path without proposals is, and nothing of that tree is copied.
+    ensures merged { IfOk result (MergesIntoOwn used.now commit.now.path) }
 {
     group.is_short();
     let edits = group.apply_proposals::<S>(alloc, committer, used)?;
