@@ -5,6 +5,14 @@ use Rattle.std.specs.List.{All, concat, insert, remove}
 use Rattle.std.specs.Vec.{vec_len, vec_capacity}
 use Rattle.mls_tree_index.specs.declared.blocks.Spot.{Spot}
 
+-- how many numbers a block has at most
+abbrev pub block_size : ℕ
+block_size = 512
+
+-- how many numbers each half of a full block has
+abbrev pub half_size : ℕ
+half_size = 256
+
 -- the blocks, and for how many more numbers there is room
 pub record BlockList : Type 0 where
   pub blocks : List (List ℕ)
@@ -19,16 +27,16 @@ abbrev pub AreBlocks : List (List ℕ) → Type 0
 AreBlocks [] = ⊥
 AreBlocks (x ∷ bs) = All (λ v. 0 < length v) bs
 
--- a block with at most 512 numbers, and memory for so many
+-- a block with memory for as many numbers as a block has at most
 pub record IsBlock (v : Vec ℕ) : Type 0 where
-  pub few : vec_len v ≤ 512
-  pub capacity : 512 ≤ vec_capacity v
+  pub few : vec_len v ≤ block_size
+  pub capacity : block_size ≤ vec_capacity v
 
--- a block with no number, and memory for 512
+-- a block with no number, and memory for as many as a block has at most
 pub record IsSpare (v : Vec ℕ) : Type 0 where
   pub items : v.items ≡ []
   pub none : vec_len v ≡ 0
-  pub capacity : 512 ≤ vec_capacity v
+  pub capacity : block_size ≤ vec_capacity v
 
 -- what holds of a list of blocks and its spare blocks, for which it has memory
 pub record AreKept (list spares : Vec (Vec ℕ)) : Type 0 where
@@ -37,9 +45,9 @@ pub record AreKept (list spares : Vec (Vec ℕ)) : Type 0 where
   pub spare : All IsSpare spares.items
   pub room : vec_len list + vec_len spares ≤ vec_capacity list
 
--- blocks of which one is split in two behind its first 256 numbers
+-- blocks of which one is split in two behind its lower half
 abbrev pub split_at : List (List ℕ) → ℕ → List (List ℕ)
-split_at bs b = insert (set bs b (take 256 (get_or bs b []))) (suc b) (drop 256 (get_or bs b []))
+split_at bs b = insert (set bs b (take half_size (get_or bs b []))) (suc b) (drop half_size (get_or bs b []))
 
 -- a block of these numbers was added at the end
 abbrev pub PushesBlock : List ℕ → List (Vec ℕ) → List (Vec ℕ) → Type 0
@@ -62,7 +70,7 @@ pub record IsSpot (bs : List (List ℕ)) (s : Spot) : Type 0 where
 pub record IsOpenAt (bs : List (List ℕ)) (s : Spot) : Type 0 where
   pub block : s.block < length bs
   pub offset : s.offset ≤ length (get_or bs s.block [])
-  pub few : length (get_or bs s.block []) < 512
+  pub few : length (get_or bs s.block []) < block_size
 
 -- a place isn't before the first number of a block but that of the first block
 abbrev pub IsInner : Spot → Type 0

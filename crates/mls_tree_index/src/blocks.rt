@@ -3,7 +3,7 @@
 ghost use Rattle.std.specs.Prelude.{◌≡◌, ℕ, ◌+◌, ◌<◌, ◌≤◌, suc, [], length, get_or, vec_len, IfOk, OnOk};
 ghost use Rattle.std.specs.List.{All, concat, insert, remove};
 ghost use Rattle.std.specs.Vec.{vec_capacity};
-ghost use Rattle.mls_tree_index.specs.Blocks.{AreBlocks, AreKept, IsBlock, IsNumberAt, IsOpenAt, IsSpare, IsSpot, PushesBlock, PutsNumber, TakesNumber, blocks_of, place_in, place_of, split_at};
+ghost use Rattle.mls_tree_index.specs.Blocks.{AreBlocks, AreKept, IsBlock, IsNumberAt, IsOpenAt, IsSpare, IsSpot, PushesBlock, PutsNumber, TakesNumber, block_size, blocks_of, place_in, place_of, split_at};
 
 use std::alloc::{AllocError, Global};
 use std::marker::Model;
@@ -47,10 +47,10 @@ impl Model for Blocks {
 
 /// A block of these numbers, with memory for as many as a block has at most.
 fn make_block(alloc: Global, numbers: &[u32]) -> Result<Vec<u32>, AllocError>
-    requires { length numbers.now ≤ 512 }
+    requires { length numbers.now ≤ block_size }
     ensures items { IfOk result (λ v. v.items ≡ numbers.now) }
     ensures len { IfOk result (λ v. vec_len v ≡ length numbers.now) }
-    ensures capacity { IfOk result (λ v. 512 ≤ vec_capacity v) }
+    ensures capacity { IfOk result (λ v. block_size ≤ vec_capacity v) }
 {
     let mut block = Vec::with_capacity(alloc, BLOCK_SIZE)?;
     block.extend_from_slice(numbers)?;
@@ -88,7 +88,7 @@ fn take_out(block: &mut Vec<u32>, offset: usize) -> usize
 
 /// Adds a block of these numbers at the end.
 fn push_block(list: &mut Vec<Vec<u32>>, numbers: &[u32]) -> Result<(), AllocError>
-    requires { length numbers.now ≤ 512 }
+    requires { length numbers.now ≤ block_size }
     ensures blocks { OnOk result (PushesBlock numbers.now list.old.items list.new.items) }
     ensures each { OnOk result (All IsBlock list.old.items → All IsBlock list.new.items) }
 {
@@ -123,7 +123,7 @@ fn add_spares(
 /// Splits a full block in halves, the upper one into a block with no number. The list has memory for that.
 fn split_block(list: &mut Vec<Vec<u32>>, b: usize, mut upper: Vec<u32>)
     requires block { b < vec_len list.old }
-    requires full { length (get_or (blocks_of list.old.items) b []) ≡ 512 }
+    requires full { length (get_or (blocks_of list.old.items) b []) ≡ block_size }
     requires room { vec_len list.old < vec_capacity list.old }
     requires spare { IsSpare upper }
     ensures len { vec_len list.new ≡ vec_len list.old + 1 }
