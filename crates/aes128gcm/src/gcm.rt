@@ -1,10 +1,10 @@
-//! GCM with AES-128, nonces of 96 bits and tags of 128 (SP 800-38D).
+//! GCM with AES-128, nonces of 96 bits and tags of 128 (SP 800-38D): sealing, and the steps of
+//! opening.
 
-ghost use Rattle.std.specs.Prelude.{◌≡◌, ℕ, ◌+◌, ◌-◌, ◌*◌, ◌/◌, ◌%◌, ◌^◌, ◌<◌, ◌≤◌, ◌++◌, [], ◌∷◌, Some, None, length, take, drop, IfOk, Ok, slice_index_or};
+ghost use Rattle.std.specs.Prelude.{◌≡◌, ℕ, ◌+◌, ◌-◌, ◌*◌, ◌/◌, ◌%◌, ◌^◌, ◌<◌, ◌≤◌, ◌++◌, [], ◌∷◌, true, length, take, drop, IfOk, slice_index_or};
 ghost use Rattle.std.specs.Str.{bytes_eq};
 ghost use Rattle.aes128gcm.specs.Aes.{xor_with, cipher};
-ghost use Rattle.aes128gcm.specs.Opening.{Opens};
-ghost use Rattle.aes128gcm.specs.Gcm.{crypt, hash_input, ghash, tag, gcm_ae, gcm_ad};
+ghost use Rattle.aes128gcm.specs.Gcm.{crypt, hash_input, ghash, tag, gcm_ae};
 ghost use Rattle.aes128gcm.specs.Parts.{count_block, block_number, absorb_padded};
 
 use crate::blocks::Block;
@@ -159,29 +159,28 @@ pub fn seal(
     Ok(bytes)
 }
 
-/// Opens a ciphertext with its tag behind it (GCM-AD: SP 800-38D, 7.2; RFC 5116, 5.1). None where
-/// the tag isn't this ciphertext's, also when an allocation fails, or `OutOfMemory`. No byte is
-/// decrypted before the tag is compared.
-#[tactic(auto, unfolding(crate::specs::Gcm::gcm_ad))]
-pub fn open(
-    alloc: Global,
-    key: &[u8; 16],
-    nonce: &[u8; 12],
-    aad: &[u8],
-    ct: &[u8],
-) -> Result<Option<Vec<u8>>, AllocError>
-    ensures answer { Opens result (gcm_ad key.now nonce.now aad.now ct.now) }
-    ensures refused { gcm_ad key.now nonce.now aad.now ct.now ≡ None → result ≡ Ok None }
+/// Whether `sent` is the tag of a ciphertext (SP 800-38D, 7.2). It takes no memory.
+pub(crate) fn is_tag(key: &Aes128, nonce: &[u8; 12], aad: &[u8], ct: &[u8], sent: &[u8]) -> bool
+    requires { length sent.now ≡ 16 }
+    ensures { result ≡ bytes_eq (tag key.now nonce.now aad.now ct.now) sent.now }
 {
-    if ct.len() < 16 {
-        return Ok(None);
-    }
-    let key = Aes128::new(key);
-    let (body, sent) = ct.split_at(ct.len() - 16);
-    if !same_tag(&tag(&key, nonce, aad, body), sent) {
-        return Ok(None);
-    }
-    let mut bytes = Vec::from_slice(alloc, body)?;
-    crypt(&key, nonce, &mut bytes);
-    Ok(Some(bytes))
+    same_tag(&tag(key, nonce, aad, ct), sent)
+}
+
+/// The text of a ciphertext whose tag is the one sent, or `OutOfMemory` (SP 800-38D, 7.2). The tags
+/// are compared before it is called.
+pub(crate) fn decrypt(
+    alloc: Global,
+    key: &Aes128,
+    nonce: &[u8; 12],
+    _aad: &[u8],
+    ct: &[u8],
+    _sent: &[u8],
+) -> Result<Vec<u8>, AllocError>
+    requires { bytes_eq (tag key.now nonce.now _aad.now ct.now) _sent.now ≡ true }
+    ensures { IfOk result (λ text. text.items ≡ crypt key.now nonce.now ct.now) }
+{
+    let mut bytes = Vec::from_slice(alloc, ct)?;
+    crypt(key, nonce, &mut bytes);
+    Ok(bytes)
 }

@@ -7,11 +7,13 @@ mod gcm;
 mod ghash;
 mod keys;
 mod laws;
+mod opening;
 mod sbox;
 mod slices;
 #[cfg(test)]
 mod tests;
 
-pub use gcm::{open, seal};
+pub use gcm::seal;
 pub use keys::Aes128;
 pub use laws::{inverse_inverts, opens_sealed, opens_where_tagged};
+pub use opening::open;

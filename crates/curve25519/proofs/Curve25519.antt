@@ -7,11 +7,12 @@ use Prim.Native.Nat.{Fin}
 use Rattle.curve25519.specs.Modular.{of, modulo}
 use Rattle.curve25519.specs.Powers.{power}
 use Rattle.curve25519.specs.Edwards.{NotSquare}
-use Rattle.curve25519.specs.Field25519.{prime, field, residue}
+use Rattle.curve25519.specs.Field25519.{prime, field, residue, least}
 use Rattle.curve25519.specs.Curve25519.{d, root_of_minus_one, On, ◌+ₚ◌, multiple, base}
+use Rattle.curve25519.specs.Laws.{MultipleLaw}
 use Rattle.curve25519.proofs.Powers.{power_is, power_square}
 use Rattle.curve25519.proofs.Field25519.{fermat, field25519}
-use Rattle.curve25519.proofs.Group.{Curve, multiples_add}
+use Rattle.curve25519.proofs.Group.{Curve, multiples_add, multiple-zero, multiple-one, commutes_here}
 
 abbrev d_number : ℕ
 d_number = 37095705934669439343138083508754565189542113879843219016388785533085940283555
@@ -34,6 +35,10 @@ pub root : field.mul root_of_minus_one root_of_minus_one ≡ field.neg field.one
 unfolding root_of_minus_one residue field modulo of
 root = val_path refl
 
+pub constant : field.mul (residue 121666) d ≡ field.neg (residue 121665)
+unfolding d residue field modulo of
+constant = val_path refl
+
 pub not_square : NotSquare field d
 unfolding d residue field modulo of
 not_square x e = euler x.0 (ap (λ (y : Fin prime). y.0) e)
@@ -44,6 +49,21 @@ curve = record { field = field25519; d = d; s = root_of_minus_one; root = root; 
 pub base_on : On base
 unfolding base d residue field modulo of
 base_on = val_path refl
+
+pub base_height : field.mul (residue 5) base.1 ≡ residue 4
+unfolding base residue field modulo of
+base_height = val_path refl
+
+pub base_even : least base.0 % 2 ≡ 0
+unfolding base residue least field modulo of
+base_even = refl
+
+pub multiple_law : MultipleLaw
+multiple_law = record {
+  none = multiple-zero curve;
+  once = multiple-one curve;
+  sum = λ p m n on. sym (commutes_here curve (multiple p m) (multiple p n) ∙ multiples_add curve p on m n);
+}
 
 -- THE MULTIPLES OF THE BASE POINT ADD UP
 pub base_adds : (m n : ℕ) → (multiple base n +ₚ multiple base m) ≡ multiple base (m + n)

@@ -1,5 +1,5 @@
 -- Two scalars in either order: the law of a key exchange by the ladder.
-use Rattle.std.proofs.Common.{◌≡◌, ℕ, zero, suc, ◌+◌, ◌*◌, ◌%◌, ◌^◌, ◌<◌, [], ◌∷◌, refl, sym, ap, ap₂, subst, ◌∙◌, ◌≢◌, mul_comm, mul_assoc, mod-eq_of_lt, mul-zero, one-mul, arith}
+use Rattle.std.proofs.Common.{◌≡◌, ℕ, zero, suc, ◌+◌, ◌*◌, ◌%◌, ◌^◌, ◌<◌, [], ◌∷◌, refl, sym, ap, ap₂, subst, ◌∙◌, ◌≢◌, ◌⊎◌, inl, inr, mul_comm, mul_assoc, mod-eq_of_lt, mul-zero, one-mul, arith}
 use Rattle.std.proofs.lemmas.Nat.{mul-mod_first, mul-mod_second}
 use Rattle.curve25519.specs.Ladder.{exchange as exchange_of}
 use Rattle.curve25519.proofs.Identities.{Term, v, i, o, ◌⊕◌, ◌⊗◌, ◌⊖◌, lookup, follows, -◌}
@@ -7,7 +7,7 @@ use Rattle.curve25519.proofs.Field.{factor, not_product}
 use Rattle.curve25519.proofs.Edwards.{Pair, below_y}
 use Rattle.curve25519.proofs.Group.{Curve, On, ◌+ₚ◌, inverse_y, with_origin, origin, multiple, multiple_on, multiples_add, multiple-zero, multiple-suc, multiple-one, multiple-mul, multiple-mod}
 use Rattle.curve25519.proofs.Prime.{IsPrime}
-use Rattle.curve25519.proofs.Ladder.{Stands, Start, root_nil, ladder, ladder_holds}
+use Rattle.curve25519.proofs.Ladder.{Stands, Start, halves, root_nil, ladder, ladder_holds}
 
 module _ (c : Curve) where
   open c use {field, d, s, root, not_square}
@@ -95,21 +95,42 @@ module _ (c : Curve) where
   }
 
   -- X / Z
-  reads : (X Z : Of) (p : Pair field) → Stands c X Z p → Proper p → mul X (field.over.numbers.inv Z) ≡ mont p
+  reads : (X Z : Of) (p : Pair field) → Stands c X Z p → add one (neg p.1) ≢ nil → mul X (field.over.numbers.inv Z) ≡ mont p
   unfolding mont
   reads X Z p st h =
-      let z≢nil : Z ≢ nil = λ e. not_product field (add X Z) (add one (neg p.1)) st.0 h.1
+      let z≢nil : Z ≢ nil = λ e. not_product field (add X Z) (add one (neg p.1)) st.0 h
       (follows field.over 3 ((v 0 ⊕ v 1) ⊗ (i ⊖ v 2)) o ((i, v 0 ⊖ v 1, v 2 ⊗ (v 0 ⊕ v 1)) ∷ (i ⊕ i, v 1, o) ∷ []) refl (lookup field.over (X ∷ Z ∷ p.1 ∷ [])) (st.1, (e, tt))) in
       follows field.over 5 (v 0 ⊗ v 3) ((i ⊕ v 2) ⊗ v 4)
       ((v 3 ⊗ v 4, v 0 ⊖ v 1, v 2 ⊗ (v 0 ⊕ v 1)) ∷ (- (v 0 ⊗ v 3), (i ⊖ v 2) ⊗ v 4, i) ∷ ((i ⊕ v 2) ⊗ v 4, v 1 ⊗ v 3, i) ∷ []) refl
-      (lookup field.over (X ∷ Z ∷ p.1 ∷ field.over.numbers.inv Z ∷ field.over.numbers.inv (add one (neg p.1)) ∷ [])) (st.1, (field.mul-inv (add one (neg p.1)) h.1, (field.mul-inv Z z≢nil, tt)))
+      (lookup field.over (X ∷ Z ∷ p.1 ∷ field.over.numbers.inv Z ∷ field.over.numbers.inv (add one (neg p.1)) ∷ [])) (st.1, (field.mul-inv (add one (neg p.1)) h, (field.mul-inv Z z≢nil, tt)))
 
   abbrev pub exchange : Of → ℕ → ℕ → Of → Of
   exchange = exchange_of field.over.numbers
 
   pub exchange_is : (k : Of) (f n : ℕ) (p : Pair field) → On c p → Proper p → mul k (add one d) ≡ neg d → n < 2 ^ f → Proper (multiple c p n) → exchange k f n (mont p) ≡ mont (multiple c p n)
   unfolding exchange_of
-  exchange_is k f n p on h law low h' = reads (ladder c k (mont p) f n).0 (ladder c k (mont p) f n).1 (multiple c p n) (ladder_holds c k (mont p) p f n (start_of p on h) law low).0 h'
+  exchange_is k f n p on h law low h' = reads (ladder c k (mont p) f n).0 (ladder c k (mont p) f n).1 (multiple c p n) (ladder_holds c k (mont p) p f n (start_of p on h) law low).0 h'.1
+
+  -- at the neutral point Z is 0, and so are both sides where the inverse of 0 is
+  reads_nil : field.over.numbers.inv nil ≡ nil → (X Z : Of) (p : Pair field) → Stands c X Z p → add one (neg p.1) ≡ nil → mul X (field.over.numbers.inv Z) ≡ mont p
+  unfolding mont
+  reads_nil none X Z p st e =
+      let z : Z ≡ nil = halves c Z (follows field.over 3 (v 1 ⊕ v 1) o ((v 0 ⊕ v 1, i ⊖ v 2, o) ∷ (- i, v 0 ⊖ v 1, v 2 ⊗ (v 0 ⊕ v 1)) ∷ []) refl (lookup field.over (X ∷ Z ∷ p.1 ∷ [])) (e, (st.1, tt))) in
+      ap (λ t. mul X (field.over.numbers.inv t)) z ∙ nothing X ∙ sym (ap (λ t. mul (add one p.1) (field.over.numbers.inv t)) e ∙ nothing (add one p.1))
+    where
+      nothing : (x : Of) → mul x (field.over.numbers.inv nil) ≡ nil
+      nothing x = ap (mul x) none ∙ field.over.laws.mul-nil x
+
+  reads_any : field.over.numbers.inv nil ≡ nil → (X Z : Of) (p : Pair field) → Stands c X Z p → mul X (field.over.numbers.inv Z) ≡ mont p
+  reads_any none X Z p st = go (field.decide (add one (neg p.1)) nil)
+    where
+      go : (add one (neg p.1) ≡ nil) ⊎ (add one (neg p.1) ≢ nil) → mul X (field.over.numbers.inv Z) ≡ mont p
+      go (inl e) = reads_nil none X Z p st e
+      go (inr h) = reads X Z p st h
+
+  pub exchange_any : field.over.numbers.inv nil ≡ nil → (k : Of) (f n : ℕ) (p : Pair field) → On c p → Proper p → mul k (add one d) ≡ neg d → n < 2 ^ f → exchange k f n (mont p) ≡ mont (multiple c p n)
+  unfolding exchange_of
+  exchange_any none k f n p on h law low = reads_any none (ladder c k (mont p) f n).0 (ladder c k (mont p) f n).1 (multiple c p n) (ladder_holds c k (mont p) p f n (start_of p on h) law low).0
 
   -- THE LAW OF THE EXCHANGE
   pub exchanges : (k : Of) (f g : ℕ) (b : Pair field) (l m n : ℕ) → Base b l → mul k (add one d) ≡ neg d → m < 2 ^ f → n < 2 ^ g → m % l ≢ 0 → n % l ≢ 0

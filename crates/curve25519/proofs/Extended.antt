@@ -1,8 +1,9 @@
 -- Extended coordinates, and a multiple by doubling and adding.
 use Rattle.std.proofs.Common.{◌≡◌, ℕ, zero, suc, ◌+◌, ◌*◌, ◌/◌, ◌%◌, ◌^◌, ◌<◌, [], ◌∷◌, refl, sym, ap, ap₂, subst, ◌∙◌, ◌≢◌, mul-one, div-add-mod', arith}
-use Rattle.curve25519.specs.Extended.{Extended as Extended_of, extended as extended_of, add_extended as add_extended_of, Represents as Represents_of, extended_origin as extended_origin_of}
+use Rattle.curve25519.specs.Extended.{Extended as Extended_of, extended as extended_of, Represents as Represents_of}
 use Rattle.curve25519.proofs.Identities.{Term, v, i, o, ◌⊕◌, ◌⊗◌, ◌⊖◌, lookup, ring, follows, -◌}
 use Rattle.curve25519.proofs.Field.{not_product}
+use Rattle.curve25519.proofs.Sums.{add_extended as add_extended_of, extended_origin as extended_origin_of}
 use Rattle.curve25519.proofs.Edwards.{Pair, below_x, below_y, below_x≢nil, below_y≢nil, one≢nil}
 use Rattle.curve25519.proofs.Group.{Curve, On, ◌+ₚ◌, inverse_x, inverse_y, origin, multiple, multiple_on, multiples_add, multiple-zero}
 

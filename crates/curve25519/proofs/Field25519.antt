@@ -1,13 +1,14 @@
 -- The laws of the field of the numbers modulo 2^255 - 19.
 use Rattle.std.specs.Prelude.{◌≡◌, ◌≢◌, ◌⊎◌, ℕ, ◌+◌, ◌-◌, ◌*◌, ◌%◌, ◌<◌, refl}
-use Rattle.std.proofs.Common.{sym, ap, ◌∙◌, ltb-true, arith}
+use Rattle.std.proofs.Common.{sym, ap, ◌∙◌, ltb-true, zero-mul, arith}
 use Rattle.std.proofs.lemmas.Nat.{mul-mod}
 use Rattle.curve25519.specs.Modular.{of, modulo}
 use Rattle.curve25519.specs.Powers.{power}
 use Rattle.curve25519.specs.Field25519.{prime, below, field, residue, least, raise}
+use Rattle.curve25519.specs.Laws.{PowerLaw}
 use Rattle.curve25519.proofs.Ring.{Ring, IsRing}
 use Rattle.curve25519.proofs.Field.{Field}
-use Rattle.curve25519.proofs.Powers.{power_mod_self, power-add, power-mul, power-one}
+use Rattle.curve25519.proofs.Powers.{power_mod_self, power-zero, power-suc, power-add, power-mul, power-one}
 use Rattle.curve25519.proofs.Modular.{of_same, of_self, modular, mul-inv as inverse_is, decide as decided, two≢nil as two_is}
 use Rattle.curve25519.proofs.FieldPrime.{p_field}
 
@@ -75,6 +76,10 @@ residue-one = refl
 
 -- ---- powers
 
+pub raise-zero : (x : field.Of) → raise x 0 ≡ field.one
+unfolding raise field modulo of
+raise-zero x = ap (of prime below) (power-zero prime x.0) ∙ of_same prime below odd (1 % prime) 1 refl
+
 pub raise-one : (x : field.Of) → raise x 1 ≡ x
 unfolding raise field modulo of
 raise-one x = of_same prime below odd (power prime x.0 1) x.0 (power_mod_self prime x.0 1 ∙ power-one prime x.0) ∙ of_self prime below odd x
@@ -89,7 +94,18 @@ pub raise-mul : (x : field.Of) (i j : ℕ) → raise (raise x i) j ≡ raise x (
 unfolding raise field modulo of
 raise-mul x i j = ap (of prime below) (ap (λ t. power prime t j) (power_mod_self prime x.0 i) ∙ power-mul prime x.0 i j)
 
+pub power_law : PowerLaw
+power_law = record { none = raise-zero; once = raise-one; sum = λ x m n. sym (raise-add x m n) }
+
 -- the inverse, as a power
 pub raise_inverse : (x : field.Of) → raise x (prime - 2) ≡ field.inv x
 unfolding raise field modulo of
 raise_inverse x = refl
+
+power_of_none : power prime 0 (prime - 2) ≡ 0
+power_of_none = power-suc prime 0 (prime - 3) ∙ ap (λ t. t % prime) (zero-mul (power prime 0 (prime - 3)))
+
+-- that of 0 is 0
+pub inv-nil : field.inv field.nil ≡ field.nil
+unfolding field modulo of
+inv-nil = ap (of prime below) power_of_none

@@ -163,7 +163,7 @@ module _ (c : Curve) where
       (lookup field.over (a ∷ b ∷ y ∷ y' ∷ u ∷ l ∷ m ∷ [])) (h, tt)
 
   -- half of a number that is 0 twice
-  halves : (x : Of) → add x x ≡ nil → x ≡ nil
+  pub halves : (x : Of) → add x x ≡ nil → x ≡ nil
   halves x e = factor field (add one one) x (ring field.over 1 ((i ⊕ i) ⊗ v 0) (v 0 ⊕ v 0) refl (lookup field.over (x ∷ [])) ∙ e) field.two≢nil
 
   pub root_nil : (x : Of) → mul x x ≡ nil → x ≡ nil

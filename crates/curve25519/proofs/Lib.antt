@@ -19,5 +19,6 @@ pub mod Powers
 pub mod Prime
 pub mod Ring
 pub mod Root
+pub mod Sums
 pub mod Vector
 pub mod X25519

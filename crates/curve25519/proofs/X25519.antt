@@ -6,14 +6,15 @@ use Prim.Native.Nat.{Fin}
 use Rattle.curve25519.proofs.Group.{origin, multiple}
 use Rattle.curve25519.specs.Modular.{of, modulo}
 use Rattle.curve25519.specs.Field25519.{prime, field, residue}
-use Rattle.curve25519.specs.Curve25519.{d, base, order}
+use Rattle.curve25519.specs.Curve25519.{d, base, order, u_of, origin as neutral}
 use Rattle.curve25519.specs.Ladder.{exchange}
 use Rattle.curve25519.specs.X25519.{a24, nine, x25519, clear_cofactor}
-use Rattle.curve25519.specs.Laws.{LadderLaw}
+use Rattle.curve25519.specs.Laws.{LadderLaw, CofactorLaw, LowOrderLaw}
+use Rattle.curve25519.proofs.Field25519.{laws, inv-nil}
 use Rattle.curve25519.proofs.Curve25519.{curve, base_on}
 use Rattle.curve25519.proofs.Order.{order_of_base}
 use Rattle.curve25519.proofs.OrderPrime.{p_order}
-use Rattle.curve25519.proofs.Exchange.{Base, mont_of, exchange_is, commutes, exchanges_nonzero, mont, mont_is}
+use Rattle.curve25519.proofs.Exchange.{Base, mont_of, exchange_any, commutes, exchanges_nonzero, mont, mont_is}
 
 law : field.mul a24 (field.add field.one d) ≡ field.neg d
 unfolding a24 d residue field modulo of
@@ -44,10 +45,24 @@ low_nonzero e = eqb-false ((1 + (prime - 463168356949264781694283940034751631413
 nine_is : mont curve base ≡ nine
 nine_is = mont_is curve base nine nine_stands low_nonzero
 
+pub base_coordinate : u_of base ≡ nine
+base_coordinate = sym (mont_of curve base) ∙ nine_is
+
 -- the ladder takes the u-coordinate of a point to that of its multiple
 pub ladder_law : LadderLaw
-ladder_law n p low on h h' =
-    ap (exchange field a24 255 n) (sym (mont_of curve p)) ∙ exchange_is curve a24 255 n p on h law low h' ∙ mont_of curve (multiple curve p n)
+ladder_law n p low on h =
+    ap (exchange field a24 255 n) (sym (mont_of curve p)) ∙ exchange_any curve inv-nil a24 255 n p on h law low ∙ mont_of curve (multiple curve p n)
+
+pub cofactor_law : CofactorLaw
+cofactor_law p on h =
+    ap (exchange field a24 4 8) (sym (mont_of curve p)) ∙ exchange_any curve inv-nil a24 4 8 p on h law (ltb-true 8 (2 ^ 4) refl) ∙ mont_of curve (multiple curve p 8)
+
+neutral_coordinate : u_of neutral ≡ field.nil
+neutral_coordinate =
+    ap (λ t. field.mul (field.add field.one field.one) (field.inv t)) (laws.add-neg field.one) ∙ ap (field.mul (field.add field.one field.one)) inv-nil ∙ laws.mul-nil (field.add field.one field.one)
+
+pub low_order_law : LowOrderLaw
+low_order_law p on h e = cofactor_law p on h ∙ ap u_of e ∙ neutral_coordinate
 
 -- a clamped scalar is no multiple of the order
 clamped : (n : ℕ) → 2 ^ 254 ≤ 8 * n → 8 * n < 2 ^ 255 → 8 * n % order ≢ 0

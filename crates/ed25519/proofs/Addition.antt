@@ -2,12 +2,13 @@
 use Rattle.std.specs.Prelude.{ℕ, ◌≡◌, ◌+◌, ◌*◌, [], ◌∷◌, refl}
 use Rattle.std.proofs.Common.{sym, ap, ap₂, ◌∙◌, subst, arith}
 use Rattle.curve25519.specs.Field25519.{field}
-use Rattle.curve25519.specs.Extended.{Extended, extended, add_extended, Represents}
+use Rattle.curve25519.specs.Extended.{Extended, extended, Represents}
 use Rattle.curve25519.specs.Curve25519.{d as curve_d, Point, On, ◌+ₚ◌, multiple}
 use Rattle.curve25519.proofs.Identities.{v, i, ◌⊕◌, ◌⊗◌, -◌, ◌⊖◌, lookup, ring, follows}
 use Rattle.curve25519.proofs.Edwards.{one≢nil}
 use Rattle.curve25519.proofs.Group.{multiples_add}
 use Rattle.curve25519.proofs.Extended.{add_rep, four}
+use Rattle.curve25519.proofs.Sums.{add_extended}
 use Rattle.curve25519.proofs.Field25519.{laws}
 use Rattle.curve25519.proofs.Curve25519.{curve}
 use Rattle.ed25519.specs.Coordinates.{of_factors}

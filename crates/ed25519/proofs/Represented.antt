@@ -4,11 +4,12 @@ use Rattle.std.proofs.Common.{sym, ap, ap₂, ◌∙◌, subst, arith}
 use native.Mathlib.Fin.{val_path}
 use Rattle.curve25519.specs.Modular.{of, modulo}
 use Rattle.curve25519.specs.Field25519.{field, residue, least}
-use Rattle.curve25519.specs.Extended.{extended, Represents, extended_origin}
+use Rattle.curve25519.specs.Extended.{extended, Represents}
 use Rattle.curve25519.specs.Curve25519.{d, root_of_minus_one, Point, origin}
 use Rattle.curve25519.proofs.Identities.{v, i, ◌⊗◌, -◌, lookup, ring, follows}
 use Rattle.curve25519.proofs.Edwards.{one≢nil}
 use Rattle.curve25519.proofs.Extended.{origin_rep, four}
+use Rattle.curve25519.proofs.Sums.{extended_origin}
 use Rattle.curve25519.proofs.Field25519.{laws, mul-inv, residue-zero, residue-one}
 use Rattle.curve25519.proofs.Curve25519.{curve}
 use Rattle.field25519.specs.Bytes.{joined_words, encode}

@@ -6,12 +6,13 @@ use Rattle.std.proofs.lemmas.Nat.{pow-add}
 use Rattle.std.proofs.lemmas.Bool.{and_parts}
 use Rattle.curve25519.specs.Modular.{of, modulo}
 use Rattle.curve25519.specs.Field25519.{field, residue, least}
-use Rattle.curve25519.specs.Extended.{Extended, extended, add_extended, Represents, extended_origin}
+use Rattle.curve25519.specs.Extended.{Extended, extended, Represents}
 use Rattle.curve25519.specs.Curve25519.{d, Point, multiple, base}
 use Rattle.curve25519.proofs.Field.{cancel_factor}
 use Rattle.curve25519.proofs.Edwards.{one≢nil}
 use Rattle.curve25519.proofs.Group.{multiple_on, multiples_add, multiple-zero, multiple-one}
 use Rattle.curve25519.proofs.Extended.{add_rep, origin_rep}
+use Rattle.curve25519.proofs.Sums.{add_extended, extended_origin}
 use Rattle.curve25519.proofs.Curve25519.{curve, base_on}
 use Rattle.ed25519.specs.declared.base_multiple.Row.{Row}
 use Rattle.ed25519.specs.declared.multiples.TheConstants.{MULTIPLES}

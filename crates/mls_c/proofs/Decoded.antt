@@ -1,7 +1,8 @@
 -- What is decoded is what the definitions say.
 use Rattle.std.proofs.Common.{◌≡◌, ◌≢◌, ℕ, List, Result, Ok, Err, refl}
 use Rattle.mls_wire.specs.declared.WireError.TheVariants as wire
-use Rattle.mls_leaf.specs.Faults.{Fails, Refuses, number_of, whole}
+use Rattle.mls_wire.specs.Whole.{whole}
+use Rattle.mls_leaf.specs.Faults.{Fails, Refuses, number_of}
 use Rattle.mls_leaf.specs.Limits.{input_limit}
 use Rattle.mls_leaf.specs.declared.error.LeafError.{LeafError}
 use Rattle.mls_leaf.specs.declared.error.LeafError.TheVariants.{Wire, BadTag, UnsupportedCredential, UnsupportedProposal, NotRising, ExtensionNotAllowed}

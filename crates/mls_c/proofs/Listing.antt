@@ -5,14 +5,15 @@ use Rattle.std.specs.Int.{w8}
 use Rattle.std.specs.List.{flat_map, AllByRecursion}
 use Rattle.mls_wire.specs.Combine.{vector}
 use Rattle.mls_wire.specs.Reading.{header, uint}
-use Rattle.mls_leaf.specs.Faults.{Spells, whole}
+use Rattle.mls_wire.specs.Whole.{whole}
+use Rattle.mls_leaf.specs.Faults.{Spells}
 use Rattle.mls_leaf.specs.Limits.{input_limit}
 use Rattle.mls_leaf.specs.Proposal.{proposal as proposal_format}
 use Rattle.mls_types.specs.Commit.{proposal_or_ref, proposal_or_ref_nonempty}
 use Rattle.mls_types.specs.declared.commit.ProposalOrRef.{ProposalOrRef}
 use Rattle.mls_types.specs.declared.commit.ProposalOrRef.TheVariants as listed
 use Rattle.mls_model.specs.declared.item.Item.{Item}
-use Rattle.mls_model.specs.Make.{listed_of}
+use Rattle.mls_model.specs.Make.{list_item_of}
 use Rattle.mls_public_group.specs.Short.{IsBelow}
 use Rattle.mls_public_group.proofs.Limits.{read_below}
 use Rattle.mls_public_group.proofs.Rest.{all_behind}
@@ -44,11 +45,11 @@ read_short bytes xs spells e =
 -- ---- one after the other
 
 abbrev lists : List Item → List ProposalOrRef
-lists items = map listed_of items
+lists items = map list_item_of items
 
-taken_more : (items : List Item) (i : Item) (rest : List ProposalOrRef) → lists (items ++ i ∷ []) ++ rest ≡ lists items ++ (listed_of i ∷ rest)
+taken_more : (items : List Item) (i : Item) (rest : List ProposalOrRef) → lists (items ++ i ∷ []) ++ rest ≡ lists items ++ (list_item_of i ∷ rest)
 taken_more [] i rest = refl
-taken_more (x ∷ xs) i rest = ap (λ (l : List ProposalOrRef). listed_of x ∷ l) (taken_more xs i rest)
+taken_more (x ∷ xs) i rest = ap (λ (l : List ProposalOrRef). list_item_of x ∷ l) (taken_more xs i rest)
 
 -- the items and the rest are all of the list
 pub record AreTaken (all rest : List ProposalOrRef) (items : List Item) : Type 0 where
@@ -59,7 +60,7 @@ pub record AreTaken (all rest : List ProposalOrRef) (items : List Item) : Type 0
 pub taken_first : (all : List ProposalOrRef) → AreShortListed all → AreTaken all all []
 taken_first all short = record { list = refl; short = tt; left = short }
 
-pub taken_step : (all rest : List ProposalOrRef) (x : ProposalOrRef) (items : List Item) (i : Item) → listed_of i ≡ x → IsShortItem i → AreTaken all (x ∷ rest) items → AreTaken all rest (items ++ i ∷ [])
+pub taken_step : (all rest : List ProposalOrRef) (x : ProposalOrRef) (items : List Item) (i : Item) → list_item_of i ≡ x → IsShortItem i → AreTaken all (x ∷ rest) items → AreTaken all rest (items ++ i ∷ [])
 taken_step all rest x items i is short b = record {
   list = taken_more items i rest ∙ ap (λ (p : ProposalOrRef). lists items ++ (p ∷ rest)) is ∙ b.list;
   short = all_behind IsShortItem items i b.short short;

@@ -4,9 +4,9 @@ use Rattle.std.specs.Str.{is_utf8}
 use Rattle.mls_wire.specs.Checks.{DoesAs, Answers, require_some}
 use Rattle.mls_wire.specs.Combine.{vector}
 use Rattle.mls_wire.specs.Reading.{◌>>=◌}
+use Rattle.mls_wire.specs.Whole.{whole}
 use Rattle.mls_kdf.specs.Kdf.{max_output}
-use Rattle.mls_schedule.specs.Epoch.{exported as exported_secret}
-use Rattle.mls_leaf.specs.Faults.{whole}
+use Rattle.mls_schedule.specs.Epoch.{export_secret as exported_secret}
 use Rattle.mls_leaf.specs.GroupExtensions.{group_extensions}
 use Rattle.mls_leaf.specs.Limits.{input_limit}
 use Rattle.mls_leaf.specs.declared.extension.Extension.{Extension}
@@ -116,7 +116,7 @@ a_label given =
     given >>= λ xs.
     if not (nat_lt 200 (length xs)) && is_utf8 xs then Ok xs else Err (number_of NotLabel)
 
--- the length of an exported secret: 10 it is too long
+-- the length of an exported secret: `OutputTooLong` (10) it is too long
 unfoldable pub an_output : ℕ → Result ℕ ℕ
 an_output n = if nat_lt max_output n then Err 10 else Ok n
 
@@ -177,7 +177,7 @@ refusal_name_of held number = Ok (makes (bytes (library_name number)), held)
 unfoldable pub bytes_length : Shown → Answer
 bytes_length held = some_bytes held >>= λ xs. Ok (tells (length xs), held)
 
--- the byte at an index: 135 where there is none
+-- the byte at an index: `BufferLength` (135) where there is none
 unfoldable pub bytes_at : Shown → ℕ → Answer
 bytes_at held index =
     some_bytes held >>= λ xs. if nat_lt index (length xs)
@@ -317,7 +317,7 @@ commit_given_list list path seed m =
 unfoldable pub member_commit : Shown → Text → ℕ → Text → Answer
 member_commit held list path seed = on_member held (commit_given_list list path seed)
 
--- a leaf's index is below 2^32: 22 no leaf has a larger one
+-- a leaf's index is below 2^32: `NoSuchLeaf` (22) no leaf has a larger one
 unfoldable pub a_leaf : ℕ → Result ℕ ℕ
 a_leaf n = if nat_lt n (2 ^ 32) then Ok n else Err 22
 
@@ -344,8 +344,8 @@ member_leaf_index held = a_member held >>= λ m. Ok (tells m.keys.leaf, held)
 abbrev pub IsTwo : List ℕ → Option (List ℕ) → ℕ → Fruit → Type 0
 IsTwo xs ys n f = fruits f ≡ (Some (bytes xs), option_map bytes ys, n)
 
--- what is made of a member that is saved, in a handle: the bytes that its saved form spells, or 6
--- where that has no spelling of an input's length; memory aside
+-- what is made of a member that is saved, in a handle: the bytes that its saved form spells, or `TooLong` (6) where
+-- that has no spelling of an input's length; memory aside
 abbrev pub SavesMember : Member → Result Fruit ℕ → Type 0
 SavesMember m (Ok f) =
     FitsInput (saved_of m) × (fruits f ≡ makes (bytes (saved_member.spell (saved_of m))))
@@ -371,7 +371,7 @@ abbrev pub TellsMember : List ℕ → List ℕ → Result Fruit ℕ → Type 0
 TellsMember identity key outcome =
     MatchResult outcome (λ f. fruits f ≡ identifies identity key) (λ n. n ≡ 1)
 
--- those of the member at a leaf: 22 there is none
+-- those of the member at a leaf: `NoSuchLeaf` (22) there is none
 unfoldable pub make_identity : Shown → ℕ → Result Fruits ℕ
 make_identity held leaf = a_member held
     >>= λ m. a_leaf leaf
@@ -387,7 +387,7 @@ make_export held label context n = a_member held
     >>= λ m. a_label label
     >>= λ l. context
     >>= λ c. an_output n
-    >>= λ k. Ok (makes (bytes (exported_secret m.epoch l c k)))
+    >>= λ k. Ok (makes (bytes (exported_secret m.epoch_secret l c k)))
 
 unfoldable pub member_export : Shown → Text → Text → ℕ → Answer
 member_export held label context n = make_export held label context n >>= λ x. Ok (x, held)

@@ -6,7 +6,7 @@ use Rattle.mls_types.specs.declared.commit.ProposalOrRef.{ProposalOrRef}
 use Rattle.mls_types.specs.declared.commit.ProposalOrRef.TheVariants as listed
 use Rattle.mls_wire.specs.Checks.{Answers}
 use Rattle.mls_model.specs.declared.item.Item.{Item}
-use Rattle.mls_model.specs.Make.{listed_of}
+use Rattle.mls_model.specs.Make.{list_item_of}
 use Rattle.mls_public_group.specs.ShortProposal.{IsShortProposal}
 
 -- a proposal in full is short; of a reference nothing is asked
@@ -19,4 +19,4 @@ AreShortListed list = AllByRecursion IsShortListed list
 
 -- the items are what is listed, or memory was refused
 abbrev pub ListsItems : Result (List ProposalOrRef) ℕ → Result (Vec Item) ℕ → Type 0
-ListsItems listed items = Answers (λ v. map listed_of v.items) (λ n. n) listed items
+ListsItems listed items = Answers (λ v. map list_item_of v.items) (λ n. n) listed items

@@ -2,7 +2,7 @@
 
 ghost use Rattle.std.specs.Prelude.{◌≡◌, option_map, map, IfOk};
 ghost use Rattle.mls_wire.specs.Checks.{Answers};
-ghost use Rattle.mls_model.specs.Make.{listed_of};
+ghost use Rattle.mls_model.specs.Make.{list_item_of};
 ghost use Rattle.mls_member.specs.Answers.{IsShortItem, AreShortItems};
 ghost use Rattle.mls_c.specs.Calls.{Changes, Does, commit_kept_list, commit_given_list, member_commit, member_commit_kept, on_member, some_proposals};
 ghost use Rattle.mls_c.specs.Given.{text};
@@ -85,7 +85,7 @@ fn list_of(alloc: Global, proposals: &Given) -> Result<Items<ProposalOrRef>, u32
 /// A proposal of a commit's list, as a commit call takes it.
 fn item_of(alloc: Global, listed: &ProposalOrRef) -> Result<Item, AllocError>
     requires { IsShortListed listed.now }
-    ensures item { IfOk result (λ i. listed_of i ≡ listed.now) }
+    ensures item { IfOk result (λ i. list_item_of i ≡ listed.now) }
     ensures short { IfOk result IsShortItem }
 {
     match listed {
@@ -99,7 +99,7 @@ fn item_of(alloc: Global, listed: &ProposalOrRef) -> Result<Item, AllocError>
 /// A commit's list, as a commit call takes it.
 fn items_of(alloc: Global, list: &[ProposalOrRef]) -> Result<Vec<Item>, AllocError>
     requires { AreShortListed list.now }
-    ensures items { IfOk result (λ v. map listed_of v.items ≡ list.now) }
+    ensures items { IfOk result (λ v. map list_item_of v.items ≡ list.now) }
     ensures short { IfOk result (λ v. AreShortItems v.items) }
 {
     let mut items = Vec::new(alloc);

@@ -2,7 +2,7 @@
 
 ghost use Rattle.std.specs.Prelude.{◌≡◌, ◌≤◌, MatchResult, length};
 ghost use Rattle.mls_kdf.specs.Kdf.{max_output};
-ghost use Rattle.mls_schedule.specs.Epoch.{exported};
+ghost use Rattle.mls_schedule.specs.Epoch.{export_secret};
 ghost use Rattle.mls_c.specs.Calls.{Does, TellsMember, Makes, make_export, make_identity, member_at, member_export, member_leaf_count};
 ghost use Rattle.mls_c.specs.Given.{text};
 ghost use Rattle.mls_c.specs.Shown.{shown};
@@ -74,7 +74,7 @@ fn export_secret(
     requires label { length label.now ≤ 200 }
     requires output { count ≤ max_output }
     ensures { MatchResult result
-        (λ v. v.items ≡ exported epoch.now label.now context.now count) (λ n. n ≡ 1) }
+        (λ v. v.items ≡ export_secret epoch.now label.now context.now count) (λ n. n ≡ 1) }
 {
     let mut secret = match Vec::from_elem(alloc, 0, count) {
         Ok(secret) => secret,

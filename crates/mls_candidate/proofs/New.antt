@@ -8,7 +8,7 @@ use Rattle.mls_leaf.specs.declared.key_package.KeyPackage.{KeyPackage}
 use Rattle.mls_treekem_model.specs.Seeds.{sign_seed}
 use Rattle.mls_suite.specs.Crypto.{Crypto}
 use Rattle.mls_model.specs.Candidate.{Candidate, init_key_of, leaf_key_of, unsigned_leaf, signed_leaf, offered_leaf, unsigned_package, signed_package, package_message, new_candidate}
-use Rattle.mls_model.specs.Messages.{is_within_limit}
+use Rattle.mls_model.specs.Messages.{require_within_limit}
 use Rattle.mls_public_group.proofs.Limits.{past_limit, length_within}
 use Rattle.mls_public_group.specs.Short.{IsBelow}
 use Rattle.mls_candidate.proofs.Packages.{identity_in, package_below}
@@ -23,7 +23,7 @@ made_by c seed offered = record { offered = offered; init = init_key_of c seed; 
 -- the checks in order
 in_order : (c : Crypto) (identity seed : List ℕ) →
     new_candidate c identity seed
-    ≡ (require 57 (not (bytes_eq (c.public (init_key_of c seed)) (c.public (leaf_key_of c seed)))) >> (is_within_limit (package_message (offered_by c identity seed)) >> Ok (made_by c seed (offered_by c identity seed))))
+    ≡ (require 57 (not (bytes_eq (c.public (init_key_of c seed)) (c.public (leaf_key_of c seed)))) >> (require_within_limit (package_message (offered_by c identity seed)) >> Ok (made_by c seed (offered_by c identity seed))))
 unfolding new_candidate signed_package unsigned_package offered_leaf signed_leaf unsigned_leaf
 in_order c identity seed = refl
 
@@ -36,7 +36,7 @@ test_is c seed a b test k = let e1 = k.0 in let e2 = k.1.0 in let e3 = k.1.1 in 
 pub same_keys : (c : Crypto) (identity seed a b : List ℕ) (test : Bool) → Keys c seed a b test → test ≡ true → new_candidate c identity seed ≡ Err 57
 same_keys c identity seed a b test k e = let same = test_is c seed a b test k in rw (in_order c identity seed, same, e) refl
 
-others : (c : Crypto) (identity seed a b : List ℕ) (test : Bool) → Keys c seed a b test → test ≡ false → new_candidate c identity seed ≡ (is_within_limit (package_message (offered_by c identity seed)) >> Ok (made_by c seed (offered_by c identity seed)))
+others : (c : Crypto) (identity seed a b : List ℕ) (test : Bool) → Keys c seed a b test → test ≡ false → new_candidate c identity seed ≡ (require_within_limit (package_message (offered_by c identity seed)) >> Ok (made_by c seed (offered_by c identity seed)))
 others c identity seed a b test k e = let same = test_is c seed a b test k in rw (in_order c identity seed, same, e) refl
 
 identity_of : (c : Crypto) (identity seed : List ℕ) → (offered_by c identity seed).leaf_node.credential.identity ≡ identity
@@ -50,19 +50,19 @@ long_identity c identity seed a b test k e lt =
     rw (others c identity seed a b test k e, over) refl
 
 pub long_message : (c : Crypto) (identity seed a b : List ℕ) (test : Bool) → Keys c seed a b test → test ≡ false → (offered : KeyPackage) (message : List ℕ) (few : Bool) → offered ≡ offered_by c identity seed → message ≡ package_message offered →
-    is_within_limit message ≡ require 6 few → few ≡ false → new_candidate c identity seed ≡ Err 6
+    require_within_limit message ≡ require 6 few → few ≡ false → new_candidate c identity seed ≡ Err 6
 long_message c identity seed a b test k e offered message few e1 e2 e3 e4 =
-    let over : is_within_limit (package_message (offered_by c identity seed)) ≡ Err 6 = ap (λ (x : KeyPackage). is_within_limit (package_message x)) (sym e1) ∙ ap is_within_limit (sym e2) ∙ e3 ∙ ap (require 6) e4 in
+    let over : require_within_limit (package_message (offered_by c identity seed)) ≡ Err 6 = ap (λ (x : KeyPackage). require_within_limit (package_message x)) (sym e1) ∙ ap require_within_limit (sym e2) ∙ e3 ∙ ap (require 6) e4 in
     rw (others c identity seed a b test k e, over) refl
 
 pub made : (c : Crypto) (identity seed a b : List ℕ) (test : Bool) → Keys c seed a b test → test ≡ false → (offered : KeyPackage) (message : List ℕ) (few : Bool) → offered ≡ offered_by c identity seed → message ≡ package_message offered →
-    is_within_limit message ≡ require 6 few → few ≡ true → (init leaf signing : List ℕ) → init ≡ init_key_of c seed → leaf ≡ leaf_key_of c seed → signing ≡ sign_seed seed →
+    require_within_limit message ≡ require 6 few → few ≡ true → (init leaf signing : List ℕ) → init ≡ init_key_of c seed → leaf ≡ leaf_key_of c seed → signing ≡ sign_seed seed →
     new_candidate c identity seed ≡ Ok (record { offered = offered; init = init; leaf = leaf; signing = signing })
 made c identity seed a b test k e offered message few e1 e2 e3 e4 init leaf signing f1 f2 f3 =
-    let low : is_within_limit (package_message (offered_by c identity seed)) ≡ Ok passed = ap (λ (x : KeyPackage). is_within_limit (package_message x)) (sym e1) ∙ ap is_within_limit (sym e2) ∙ e3 ∙ ap (require 6) e4 in
+    let low : require_within_limit (package_message (offered_by c identity seed)) ≡ Ok passed = ap (λ (x : KeyPackage). require_within_limit (package_message x)) (sym e1) ∙ ap require_within_limit (sym e2) ∙ e3 ∙ ap (require 6) e4 in
     rw (others c identity seed a b test k e, low, e1, f1, f2, f3) refl
 
 -- a message within the limit is of a short KeyPackage
-pub message_below : (offered : KeyPackage) (message : List ℕ) (few : Bool) → key_package.Fits offered → message ≡ package_message offered → is_within_limit message ≡ require 6 few → few ≡ true → IsBelow (2 ^ 27) key_package offered
+pub message_below : (offered : KeyPackage) (message : List ℕ) (few : Bool) → key_package.Fits offered → message ≡ package_message offered → require_within_limit message ≡ require 6 few → few ≡ true → IsBelow (2 ^ 27) key_package offered
 message_below offered message few fits e1 e2 e3 =
-    package_below offered fits (length_within (package_message offered) (ap is_within_limit (sym e1) ∙ e2 ∙ ap (require 6) e3))
+    package_below offered fits (length_within (package_message offered) (ap require_within_limit (sym e1) ∙ e2 ∙ ap (require 6) e3))

@@ -8,8 +8,9 @@ use Rattle.mls_wire.proofs.CheckLaws.{bind_ok, then_ok, require_ok}
 use Rattle.mls_wire.specs.Checks.{passed, require}
 use Rattle.mls_wire.specs.Laws.{ok_is}
 use Rattle.mls_wire.specs.Reading.{opaque, uint}
+use Rattle.mls_wire.specs.Whole.{whole}
 use Rattle.mls_leaf.proofs.WholeLaws.{whole_again}
-use Rattle.mls_leaf.specs.Faults.{Spells, whole}
+use Rattle.mls_leaf.specs.Faults.{Spells}
 use Rattle.mls_leaf.specs.KeyPackage.{key_package}
 use Rattle.mls_leaf.specs.Limits.{input_limit}
 use Rattle.mls_checks.proofs.LeafLaws.{package_steps}
@@ -19,7 +20,7 @@ use Rattle.mls_saved.specs.Candidate.{saved_candidate}
 use Rattle.mls_saved.specs.declared.candidate.SavedCandidate.{SavedCandidate}
 use Rattle.mls_model.specs.Candidate.{Candidate}
 use Rattle.mls_model.specs.MemberInvariant.{IsGoodCandidate}
-use Rattle.mls_model.specs.Messages.{is_within_limit}
+use Rattle.mls_model.specs.Messages.{require_within_limit}
 use Rattle.mls_public_group.proofs.Limits.{length_within, read_within}
 use Rattle.mls_public_group.specs.Short.{IsBelow}
 use Rattle.mls_candidate.specs.Saved.{saved_parts, saved_bytes, save_candidate, candidate_of, saved_of_suite, own_key_checks, load_candidate, GoodIsLoaded, LoadedIsGood}
@@ -53,7 +54,7 @@ same a b e = (bytes_eq-Decides b a).1 (sym e)
 pub good_is_loaded : GoodIsLoaded
 unfolding save_candidate load_candidate saved_of_suite candidate_of own_key_checks saved_parts
 good_is_loaded c k good s bytes e =
-    let steps = then_ok (is_within_limit (saved_bytes k)) _ _ e in
+    let steps = then_ok (require_within_limit (saved_bytes k)) _ _ e in
     let is : saved_bytes k ≡ bytes = ok_is (saved_bytes k) bytes steps.1 in
     let le : length bytes ≤ input_limit = subst (λ (b : List ℕ). length b ≤ input_limit) is (length_within (saved_bytes k) steps.0) in
     let read : whole saved_candidate input_limit bytes ≡ Ok (saved_parts k) = whole_again saved_candidate input_limit bytes (saved_parts k) (record { fits = saved_fits (saved_parts k) good.package_of s.init s.leaf s.signing; spelled = sym is }) le in

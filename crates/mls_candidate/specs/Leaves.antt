@@ -16,17 +16,33 @@ public_init_key c seed = c.public (init_key_of c seed)
 abbrev pub public_leaf_key : Crypto → List ℕ → List ℕ
 public_leaf_key c seed = c.public (leaf_key_of c seed)
 
+-- a key is the public key of some private one
+abbrev pub IsPublicKey : Crypto → List ℕ → Type 0
+IsPublicKey c key = (sk : List ℕ) × (key ≡ c.public sk)
+
 -- the leaf is not signed yet, and has these parts (RFC 9420, 7.2)
 abbrev pub IsLeafOf : Crypto → List ℕ → List ℕ → Credential → LeafSource → LeafNode → Type 0
 IsLeafOf c encryption_key signature_key credential source leaf =
     leaf ≡ unsigned_leaf c encryption_key signature_key credential source
 
+-- a leaf that replaces the old one in a group: it has this encryption key, its signature key and its
+-- credential are the old one's, and it is signed (RFC 9420, 7.2)
+abbrev pub leaf_with_key : Crypto → List ℕ → List ℕ → ℕ → LeafNode → LeafSource → List ℕ →
+    LeafNode
+leaf_with_key c signing group i old source key =
+    signed_leaf c signing group i (unsigned_leaf c key old.signature_key old.credential source)
+
+-- The leaf that a call answers is the old one renewed, with this encryption key.
+abbrev pub RenewsWithKey : {E : Type 0} → Crypto → List ℕ → List ℕ → ℕ → LeafNode → LeafSource →
+    List ℕ → Result LeafNode E → Type 0
+RenewsWithKey c signing group i old source key result =
+    IfOk result (λ leaf. leaf ≡ leaf_with_key c signing group i old source key)
+
 -- a leaf that replaces the old one in a group: its encryption key is made of the seed, its signature key and its
 -- credential are the old one's, and it is signed (RFC 9420, 7.2)
 abbrev pub renewed_leaf : Crypto → List ℕ → List ℕ → ℕ → LeafNode → LeafSource → List ℕ → LeafNode
 renewed_leaf c signing group i old source seed =
-    signed_leaf c signing group i
-    (unsigned_leaf c (public_leaf_key c seed) old.signature_key old.credential source)
+    leaf_with_key c signing group i old source (public_leaf_key c seed)
 
 -- The leaf that a call answers is the old one renewed.
 abbrev pub Renews : {E : Type 0} → Crypto → List ℕ → List ℕ → ℕ → LeafNode → LeafSource → List ℕ →
@@ -36,4 +52,5 @@ Renews c signing group i old source seed result =
 
 -- the KeyPackage that a candidate of an identity and a seed offers (RFC 9420, 10)
 abbrev pub offered_package : Crypto → List ℕ → List ℕ → KeyPackage
-offered_package c identity seed = signed_package c (sign_seed seed) (unsigned_package c identity seed)
+offered_package c identity seed =
+    signed_package c (sign_seed seed) (unsigned_package c identity seed)

@@ -1,7 +1,8 @@
 -- The numbers and names of what loading refuses, and what is refused whatever memory there is.
 use Rattle.std.specs.Prelude.{ℕ, List, Result, codes}
 use Rattle.mls_wire.specs.Names.{refusal_name}
-use Rattle.mls_leaf.specs.Faults.{number_of as number_of_leaf, whole}
+use Rattle.mls_wire.specs.Whole.{whole}
+use Rattle.mls_leaf.specs.Faults.{number_of as number_of_leaf}
 use Rattle.mls_leaf.specs.Limits.{input_limit}
 use Rattle.mls_checks.specs.Faults.{number_of as number_of_check}
 use Rattle.mls_saved.specs.Candidate.{saved_candidate}
@@ -33,4 +34,5 @@ candidate_by p = record { offered = p.offered; init = p.init; leaf = p.leaf; sig
 
 -- faults of decoding are answered whatever memory there is
 abbrev pub RefusesUndecoded : {A : Type 0} → List ℕ → Result A CandidateLoadError → Type 0
-RefusesUndecoded bytes result = RefusesOutright number_of (whole saved_candidate input_limit bytes) result
+RefusesUndecoded bytes result =
+    RefusesOutright number_of (whole saved_candidate input_limit bytes) result

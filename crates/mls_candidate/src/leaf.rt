@@ -6,7 +6,7 @@ ghost use Rattle.mls_leaf.specs.declared.leaf.LeafSource.TheVariants.{KeyPackage
 ghost use Rattle.mls_public_group.specs.Short.{IsBelow};
 ghost use Rattle.mls_candidate.specs.Short.{IsShortSource, IsShortLeaf};
 ghost use Rattle.mls_model.specs.Candidate.{leaf_key_of, made_capabilities, signed_leaf};
-ghost use Rattle.mls_candidate.specs.Leaves.{IsLeafOf, Renews, public_leaf_key};
+ghost use Rattle.mls_candidate.specs.Leaves.{IsLeafOf, IsPublicKey, Renews, RenewsWithKey, public_leaf_key};
 
 use mls_kdf::{Secret, Seed};
 use mls_leaf::{
@@ -18,7 +18,7 @@ use std::alloc::Global;
 
 /// The key pair of the leaf that is made of a seed.
 #[tactic(auto, unfolding(mls_model::specs::Candidate::leaf_key_of))]
-pub(crate) fn leaf_pair<S: Suite>(alloc: Global, seed: &Seed) -> Result<KeyPair, OutOfMemory>
+pub fn leaf_pair<S: Suite>(alloc: Global, seed: &Seed) -> Result<KeyPair, OutOfMemory>
     ensures private { IfOk result (λ pair. pair.sk ≡ leaf_key_of S.crypto seed.now) }
     ensures public { IfOk result (λ pair. pair.pk.items ≡ public_leaf_key S.crypto seed.now) }
 {
@@ -117,6 +117,33 @@ fn source_has_spelling(source: &LeafSource)
     }
 }
 
+/// A leaf that replaces another in a group: it has this encryption key, its signature key and its credential are those
+/// of the old one, and it is signed (RFC 9420, 7.2). A parent hash in its source has at most 32 bytes.
+pub fn renewed_leaf_with_key<S: Suite>(
+    alloc: Global,
+    signing: &Secret,
+    group_id: &[u8],
+    index: u32,
+    old: &LeafNode,
+    source: LeafSource,
+    encryption_key: Vec<u8>,
+) -> Result<LeafNode, OutOfMemory>
+    requires old { IsBelow (2 ^ 27) leaf_node old.now }
+    requires group { length group_id.now < 2 ^ 28 }
+    requires source { IsShortSource source }
+    requires key { IsPublicKey S.crypto encryption_key.items }
+    ensures leaf { RenewsWithKey S.crypto signing.now group_id.now index old.now source
+        encryption_key.items result }
+    // It isn't much longer than the old one.
+    ensures below { IfOk result (λ leaf. IsBelow (2 ^ 28) leaf_node leaf) }
+{
+    source_has_spelling(&source);
+    let signature_key = Bytes::from_slice(alloc, old.signature_key.as_slice())?;
+    let credential = old.credential.clone()?;
+    let leaf = unsigned_leaf::<S>(alloc, encryption_key, signature_key, credential, source)?;
+    sign_leaf::<S>(alloc, signing, group_id, index, leaf)
+}
+
 /// A leaf that replaces another in a group: its encryption key is made of the seed, its signature key and its
 /// credential are those of the old one, and it is signed (RFC 9420, 7.2). A parent hash in its source has at most 32
 /// bytes.
@@ -136,10 +163,6 @@ pub fn renewed_leaf<S: Suite>(
     // It isn't much longer than the old one.
     ensures below { IfOk result (λ leaf. IsBelow (2 ^ 28) leaf_node leaf) }
 {
-    source_has_spelling(&source);
     let KeyPair { pk, .. } = leaf_pair::<S>(alloc, seed)?;
-    let signature_key = Bytes::from_slice(alloc, old.signature_key.as_slice())?;
-    let credential = old.credential.clone()?;
-    let leaf = unsigned_leaf::<S>(alloc, pk, signature_key, credential, source)?;
-    sign_leaf::<S>(alloc, signing, group_id, index, leaf)
+    renewed_leaf_with_key::<S>(alloc, signing, group_id, index, old, source, pk)
 }

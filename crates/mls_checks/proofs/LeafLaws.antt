@@ -10,7 +10,7 @@ use Rattle.mls_leaf.specs.declared.leaf.LeafSource.{LeafSource}
 use Rattle.mls_leaf.specs.declared.leaf.LeafSource.TheVariants.{KeyPackage as by_key_package, Update as by_update, Commit as by_commit}
 use Rattle.mls_leaf.specs.Inputs.{leaf_place, leaf_node_tbs}
 use Rattle.mls_checks.specs.Leaf.{is_signed, is_capable, is_of_key_package, is_of_source, has_identity_of}
-use Rattle.mls_checks.specs.Checks.{key_package_checks, replaced_checks, is_package_signed}
+use Rattle.mls_checks.specs.Checks.{key_package_checks, replacement_checks, is_package_signed}
 use Rattle.mls_checks.specs.Laws.{SignedAnywhere, PackageSteps, ReplacedSteps}
 
 leaf_anywhere : (s : LeafSource) → is_of_key_package s ≡ true → (g h : List ℕ) (i j : ℕ) → leaf_place s g i ≡ leaf_place s h j
@@ -48,7 +48,7 @@ package_steps c k h =
     }
 
 pub replaced_steps : ReplacedSteps
-unfolding replaced_checks has_identity_of
+unfolding replacement_checks has_identity_of
 replaced_steps c new old source group i h =
     let one = require_ok 50 (is_of_source source new.source) _ passed h in
     let two = require_ok 51 (is_signed c group i new) _ passed one.1 in

@@ -5,9 +5,9 @@ use Rattle.mls_wire.specs.Checks.{passed}
 use Rattle.mls_leaf.specs.declared.leaf.LeafNode.{LeafNode}
 use Rattle.mls_leaf.specs.declared.key_package.KeyPackage.{KeyPackage}
 use Rattle.mls_suite.specs.Crypto.{Crypto}
-use Rattle.mls_checks.specs.declared.checks.Source.{Source}
+use Rattle.mls_checks.specs.declared.checks.LeafUse.{LeafUse}
 use Rattle.mls_checks.specs.Leaf.{is_signed, is_capable, is_of_key_package, is_of_source}
-use Rattle.mls_checks.specs.Checks.{key_package_checks, replaced_checks, is_package_signed}
+use Rattle.mls_checks.specs.Checks.{key_package_checks, replacement_checks, is_package_signed}
 
 -- a key package's leaf is signed at any place of any group, or at none (RFC 9420, 7.2)
 abbrev pub SignedAnywhere : Type 0
@@ -28,7 +28,7 @@ abbrev pub PackageSteps : Type 0
 PackageSteps = (c : Crypto) (k : KeyPackage) → key_package_checks c k ≡ Ok passed → IsPackage c k
 
 -- what the checks of a leaf that replaces another found
-pub record IsReplacement (c : Crypto) (new old : LeafNode) (source : Source) (group : List ℕ) (i : ℕ) : Type 0 where
+pub record IsReplacement (c : Crypto) (new old : LeafNode) (source : LeafUse) (group : List ℕ) (i : ℕ) : Type 0 where
   pub source_is : is_of_source source new.source ≡ true
   pub signed : is_signed c group i new ≡ true
   pub capable : is_capable c.number new ≡ true
@@ -37,4 +37,4 @@ pub record IsReplacement (c : Crypto) (new old : LeafNode) (source : Source) (gr
   pub differs : bytes_eq new.encryption_key old.encryption_key ≡ false
 
 abbrev pub ReplacedSteps : Type 0
-ReplacedSteps = (c : Crypto) (new old : LeafNode) (source : Source) (group : List ℕ) (i : ℕ) → replaced_checks c new old source group i ≡ Ok passed → IsReplacement c new old source group i
+ReplacedSteps = (c : Crypto) (new old : LeafNode) (source : LeafUse) (group : List ℕ) (i : ℕ) → replacement_checks c new old source group i ≡ Ok passed → IsReplacement c new old source group i

@@ -3,7 +3,7 @@
 ghost use Rattle.std.specs.Prelude.{◌≡◌, ◌<◌, ◌^◌, length};
 ghost use Rattle.mls_leaf.specs.KeyPackage.{key_package as package_format};
 ghost use Rattle.mls_leaf.specs.Leaf.{leaf_node};
-ghost use Rattle.mls_checks.specs.Checks.{key_package_checks, replaced_checks};
+ghost use Rattle.mls_checks.specs.Checks.{key_package_checks, replacement_checks};
 ghost use Rattle.mls_checks.specs.Faults.{ChecksAs};
 ghost use Rattle.mls_checks.specs.Leaf.{is_of_source, has_identity_of};
 ghost use Rattle.mls_checks.specs.Short.{IsShort};
@@ -16,7 +16,7 @@ use std::alloc::Global;
 
 /// For what a leaf replaces another.
 #[derive(Clone, Copy, Debug, PartialEq, Eq)]
-pub enum Source {
+pub enum LeafUse {
     /// An update proposal.
     Update,
     /// The path of a commit.
@@ -24,12 +24,12 @@ pub enum Source {
 }
 
 /// Whether the leaf was made for that.
-fn is_of_source(source: Source, of: &LeafSource) -> bool
+fn is_of_source(source: LeafUse, of: &LeafSource) -> bool
     ensures { result ≡ is_of_source source of.now }
 {
     match source {
-        Source::Update => matches!(of, LeafSource::Update),
-        Source::Commit => matches!(of, LeafSource::Commit { .. }),
+        LeafUse::Update => matches!(of, LeafSource::Update),
+        LeafUse::Commit => matches!(of, LeafSource::Commit { .. }),
     }
 }
 
@@ -75,18 +75,19 @@ pub fn key_package<S: Suite>(alloc: Global, offered: &KeyPackage) -> Result<(), 
 
 /// The checks of a leaf that was made for an update or a commit, and of the leaf that it replaces (RFC 9420, 7.3). The
 /// first that fails is answered: the leaf's source, its signature, its capabilities, its identity, its key.
-#[tactic(auto, unfolding(crate::specs::Checks::replaced_checks))]
-pub fn replaced<S: Suite>(
+#[tactic(auto, unfolding(crate::specs::Checks::replacement_checks))]
+pub fn check_replacement<S: Suite>(
     alloc: Global,
     new: &LeafNode,
     old: &LeafNode,
-    source: Source,
+    source: LeafUse,
     group_id: &[u8],
     index: u32,
 ) -> Result<(), CheckError>
     requires leaf { IsShort leaf_node new.now }
     requires group { length group_id.now < 2 ^ 28 }
-    ensures { ChecksAs (replaced_checks S.crypto new.now old.now source group_id.now index) result }
+    ensures { ChecksAs (replacement_checks S.crypto new.now old.now source group_id.now index)
+        result }
 {
     if !is_of_source(source, &new.source) {
         return Err(CheckError::LeafSource);

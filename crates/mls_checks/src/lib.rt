@@ -6,7 +6,7 @@ mod error;
 mod laws;
 mod leaf;
 
-pub use checks::{Source, key_package, replaced};
+pub use checks::{LeafUse, check_replacement, key_package};
 pub use error::CheckError;
 pub use laws::laws_of_leaves;
 pub use leaf::{leaf_capable, leaf_signed};

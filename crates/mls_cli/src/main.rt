@@ -3,38 +3,16 @@
 
 ghost use Rattle.std.specs.Prelude.{◌≡◌, false, IfOk, IfSome, string_bytes};
 ghost use Rattle.mls_cli_text.specs.InputOutput.{in_failed};
-ghost use Rattle.mls_cli.specs.Arguments.{NamesProgram};
+ghost use Rattle.mls_cli.specs.Words.{NamesProgram};
 
-mod arguments;
-mod check_options;
-mod drawing_options;
-mod explain_arguments;
-mod hints;
-mod member_picture;
-mod meter;
-mod options;
-mod places;
-mod printing;
-mod remarks;
-mod replay_arguments;
-mod saying;
-mod serving;
-mod show_options;
-mod source;
-mod tasks;
-mod vectors_options;
-
-use arguments::{no_text, request};
-use meter::{Meter, Pace, pace_of};
 use mls_cli_replay::Silent;
+use mls_cli_serve::{
+    Meter, NoJob, Pace, Request, Source, no_text, open_source, pace_of, request, serve,
+};
 use mls_cli_text::{In, Out};
-use serving::serve;
-use source::Source;
 use std::alloc::{AllocError, Global};
-use std::fs::File;
 use std::io::{ErrorKind, IsTerminal, Stderr};
 use std::process::ExitCode;
-use tasks::{NoJob, Request};
 
 fn main(rt: HostRuntime) -> ExitCode {
     ExitCode::from(run(&rt))
@@ -62,19 +40,6 @@ fn words_in(rt: &HostRuntime) -> Result<Vec<String>, NoJob> {
                 Err(no_text(alloc))
             }
         }
-    }
-}
-
-/// What stands under a path, if it can be opened: `-` is the standard input.
-fn open_source(rt: &HostRuntime, path: &str) -> Option<In<Source>>
-    ensures { IfSome result (λ source. in_failed source ≡ false) }
-{
-    if path == "-" {
-        return Some(In::new(Source::Standard(rt.stdin())));
-    }
-    match File::open(rt, path) {
-        Ok(file) => Some(In::new(Source::Opened(file))),
-        Err(_) => None,
     }
 }
 
@@ -133,6 +98,3 @@ fn run(rt: &HostRuntime) -> u8 {
         }
     }
 }
-
-#[cfg(test)]
-mod tests;

@@ -8,13 +8,13 @@ use Rattle.mls_wire.specs.Checks.{Passed, passed}
 use Rattle.mls_wire.specs.Combine.{optional}
 use Rattle.mls_wire.specs.Format.{IsBytes}
 use Rattle.mls_wire.specs.Laws.{bind_ok}
-use Rattle.mls_wire.specs.Stateful.{RunFits}
-use Rattle.mls_leaf.specs.Faults.{whole}
+use Rattle.mls_wire.specs.StatefulReads.{RunFits}
+use Rattle.mls_wire.specs.Whole.{whole}
 use Rattle.mls_leaf.specs.Limits.{input_limit}
 use Rattle.mls_leaf.specs.Node.{node}
 use Rattle.mls_leaf.specs.Parent.{Parent, rises_from}
 use Rattle.mls_leaf.proofs.ParentLaws.{rises_from-nil, rises_from-more}
-use Rattle.mls_leaf.specs.ParentNode.{parent_node, rising}
+use Rattle.mls_leaf.specs.ParentNode.{parent_node, rising_rule}
 use Rattle.mls_leaf.specs.declared.node.Node.{Node}
 use Rattle.mls_leaf.specs.declared.node.Node.TheVariants.{Leaf as in_leaf, Parent as in_parent}
 use Rattle.mls_leaf.proofs.WholeLaws.{whole_takes}
@@ -24,7 +24,7 @@ use Rattle.mls_treemath.specs.Paths.{nodes_in}
 use Rattle.mls_tree_model.specs.Term.{Term, height, is_full_width, is_perfect}
 use Rattle.mls_tree_model.specs.Lists.{all_parents, parent_passes, rises_here}
 use Rattle.mls_tree_model.specs.Good.{IsGood, has_good_shape, is_within, tree_checks}
-use Rattle.mls_tree_model.specs.Arrays.{parent_in, term_of, padded, height_for, sent_term, from_nodes}
+use Rattle.mls_tree_model.specs.Arrays.{parent_in, term_of, with_padding, height_for, sent_term, from_nodes}
 use Rattle.mls_tree_model.proofs.ArrayLaws.{perfect-term_of}
 use Rattle.mls_tree_model.proofs.GoodLaws.{good_from_checks, good_passes}
 use Rattle.mls_tree_model.proofs.PlaceLaws.{perfect_itself}
@@ -47,7 +47,7 @@ use Rattle.mls_tree.proofs.SentLemmas.{sent_is}
 abbrev RisingCell : Option Node → Type 0
 RisingCell c = IfSome (parent_in c) (λ p. rises_from 0 p.unmerged_leaves ≡ true)
 
-list_rises : (low : ℕ) (xs : List ℕ) → RunFits rising low xs → rises_from low xs ≡ true
+list_rises : (low : ℕ) (xs : List ℕ) → RunFits rising_rule low xs → rises_from low xs ≡ true
 list_rises low [] fits = rises_from-nil low
 list_rises low (x ∷ xs) fits = rises_from-more low x xs (leb-true low x fits.0.1) ∙ list_rises (x + 1) xs fits.1
 
@@ -77,12 +77,12 @@ of_cells (suc h) b xs all =
     (of_cells h _ (drop (suc (nodes_in h)) xs) (of_back RisingCell (suc (nodes_in h)) xs all)))
 
 sent_rises : (xs : List (Option Node)) → AllByRecursion (optional node).Fits xs → all_parents rises_here 0 (sent_term xs) ≡ true
-unfolding sent_term padded
+unfolding sent_term with_padding
 sent_rises xs fits = of_cells (height_for (length xs)) 0 _ (of_padded RisingCell tt _ xs (of_spelled xs fits))
 
 sent_perfect : (xs : List (Option Node)) → is_perfect (height (sent_term xs)) (sent_term xs) ≡ true
 unfolding sent_term
-sent_perfect xs = perfect_itself (height_for (length xs)) _ (perfect-term_of (height_for (length xs)) (padded xs))
+sent_perfect xs = perfect_itself (height_for (length xs)) _ (perfect-term_of (height_for (length xs)) (with_padding xs))
 
 -- ---- a tree that bytes spell is good where its checks pass
 

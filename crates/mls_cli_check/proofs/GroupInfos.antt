@@ -6,7 +6,8 @@ use Rattle.std.specs.declared.alloc.AllocError.{AllocError}
 use Rattle.std.specs.Str.{bytes_eq}
 use Rattle.mls_wire.specs.Checks.{Answers, Passed, passed}
 use Rattle.mls_wire.specs.Reading.{◌>>=◌}
-use Rattle.mls_leaf.specs.Faults.{Fails, Spells, Writes, number_of, whole}
+use Rattle.mls_wire.specs.Whole.{whole}
+use Rattle.mls_leaf.specs.Faults.{Fails, Spells, Writes, number_of}
 use Rattle.mls_leaf.specs.Limits.{input_limit}
 use Rattle.mls_leaf.specs.declared.error.LeafError.{LeafError}
 use Rattle.mls_types.specs.Message.{mls_message}

@@ -3,7 +3,7 @@ use Rattle.std.specs.Prelude.{◌≡◌, ◌↔◌, nat_lt, ℕ, Bool, List, [],
 use Rattle.hex.specs.Hex.{decode_of}
 use Rattle.mls_wire.specs.Checks.{require_some}
 use Rattle.mls_wire.specs.Reading.{◌>>=◌}
-use Rattle.mls_leaf.specs.Faults.{whole}
+use Rattle.mls_wire.specs.Whole.{whole}
 use Rattle.mls_leaf.specs.Limits.{input_limit}
 use Rattle.mls_types.specs.GroupInfo.{ratchet_tree}
 use Rattle.mls_tree_model.specs.Term.{Term, width}
@@ -34,7 +34,7 @@ tree_entries t =
     ∷ entry [] (codes "members") (number (length (members 0 t)))
     ∷ entry [] (codes "tree_hash") (bytes (tree_hash 0 t)) ∷ []
 
--- as many bytes as an input may have, or 6
+-- as many bytes as an input may have, or `TooLong` (6)
 abbrev pub within_limit : List ℕ → Result (List ℕ) ℕ
 within_limit bs = if nat_lt input_limit (length bs) then Err 6 else Ok bs
 
@@ -45,7 +45,8 @@ group_in text = require_some 8 (decoded_bytes (decode_of text)) >>= within_limit
 abbrev pub both_texts : List ℕ → List ℕ → Result (List ℕ × List ℕ) ℕ
 both_texts spelled id = Ok (spelled, id)
 
--- the bytes of a file's text and of a group's: 8 the file's isn't hex, then 8 and 6 of the group's
+-- the bytes of a file's text and of a group's: `NotHex` (8) the file's isn't hex, then `NotHex` (8) and `TooLong` (6)
+-- of the group's
 unfoldable pub texts_in : Form → List ℕ → List ℕ → Result (List ℕ × List ℕ) ℕ
 texts_in form text group = do
   spelled ← require_some 8 (bytes_of_file form text)
@@ -93,7 +94,8 @@ rules_report c group t =
     (check_step 24 (has_good_hashes t) (ok_line (codes "parent_hashes"))
     (check_step 25 (has_distinct_keys t) (ok_line (codes "keys"))
     (check_step 26 (has_distinct_clients t) (ok_line (codes "clients"))
-    (check_step 51 (is_all_signed (rules_of c group) t) (word_line (codes "signatures") (signature_word c))
+    (check_step 51 (is_all_signed (rules_of c group) t)
+    (word_line (codes "signatures") (signature_word c))
     (check_step 52 (is_all_capable (rules_of c group) t) (ok_line (codes "capabilities"))
     (check_step 36 (is_all_fit (rules_of c group) t) (word_line (codes "key_forms") (key_word c))
     all_passed))))))
@@ -126,11 +128,13 @@ abbrev pub check_page_on : Crypto → List ℕ → Result (List ℕ) ℕ → Pag
 check_page_on c spelled (Ok group) = check_text c spelled group
 check_page_on c spelled (Err n) = refused n
 
--- what is printed of the bytes of a file, if it has some; a file without bytes, since it is no hex text, is refused with 8
+-- what is printed of the bytes of a file, if it has some; a file without bytes, since it is no hex text, is refused
+-- with `NotHex` (8)
 abbrev pub page_of_bytes : {E : Type 0} → (List ℕ → Page E) → Option (List ℕ) → Page E
 page_of_bytes page None = refused 8
 page_of_bytes page (Some spelled) = page spelled
 
 -- what is printed under a suite for a file's text and a group's
 unfoldable pub check_page : Crypto → Form → List ℕ → List ℕ → Page Entry
-check_page c form text group = page_of_bytes (λ spelled. check_page_on c spelled (group_in group)) (bytes_of_file form text)
+check_page c form text group =
+    page_of_bytes (λ spelled. check_page_on c spelled (group_in group)) (bytes_of_file form text)

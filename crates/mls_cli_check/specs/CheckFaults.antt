@@ -1,6 +1,6 @@
 -- The numbers of what `mls check` refuses, and which refusals come whatever memory there is.
 use Rattle.std.specs.Prelude.{◌≡◌, ◌≢◌, ℕ, List, Result, Err, IfErr, IsOk, MatchResult}
-use Rattle.mls_leaf.specs.Faults.{whole}
+use Rattle.mls_wire.specs.Whole.{whole}
 use Rattle.mls_leaf.specs.Limits.{input_limit}
 use Rattle.mls_types.specs.GroupInfo.{ratchet_tree}
 use Rattle.mls_types.specs.Message.{mls_message}
@@ -24,12 +24,17 @@ number_of WrongMessageKind = 95
 
 -- a call that takes no memory succeeds where its definition has a value, and else answers the definition's number
 abbrev pub ChecksOutright : {A B : Type 0} → Result A ℕ → Result B CheckError → Type 0
-ChecksOutright defined result = MatchResult result (λ _. IsOk defined) (λ (e : CheckError). defined ≡ Err (number_of e))
+ChecksOutright defined result =
+    MatchResult result (λ _. IsOk defined) (λ (e : CheckError). defined ≡ Err (number_of e))
 
 -- Bytes that spell no message are refused, and not for want of memory.
 abbrev pub RefusesMessage : {A : Type 0} → List ℕ → Result A CheckError → Type 0
-RefusesMessage bytes result = (n : ℕ) → whole mls_message input_limit bytes ≡ Err n → IfErr result (λ (e : CheckError). number_of e ≢ 1)
+RefusesMessage bytes result =
+    (n : ℕ) → whole mls_message input_limit bytes ≡ Err n
+    → IfErr result (λ (e : CheckError). number_of e ≢ 1)
 
 -- Bytes that spell no nodes are refused, and not for want of memory.
 abbrev pub RefusesNodes : {A : Type 0} → List ℕ → Result A CheckError → Type 0
-RefusesNodes bytes result = (n : ℕ) → whole ratchet_tree input_limit bytes ≡ Err n → IfErr result (λ (e : CheckError). number_of e ≢ 1)
+RefusesNodes bytes result =
+    (n : ℕ) → whole ratchet_tree input_limit bytes ≡ Err n
+    → IfErr result (λ (e : CheckError). number_of e ≢ 1)

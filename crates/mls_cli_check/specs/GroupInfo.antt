@@ -3,7 +3,7 @@ use Rattle.std.specs.Prelude.{ℕ, ◌==◌, List, [], ◌∷◌, codes, if◌th
 use Rattle.std.specs.Str.{bytes_eq}
 use Rattle.mls_wire.specs.Checks.{Passed, require, require_some}
 use Rattle.mls_wire.specs.Reading.{◌>>=◌}
-use Rattle.mls_leaf.specs.Faults.{whole}
+use Rattle.mls_wire.specs.Whole.{whole}
 use Rattle.mls_leaf.specs.Limits.{input_limit}
 use Rattle.mls_types.specs.GroupInfo.{group_info_tbs}
 use Rattle.mls_types.specs.Message.{mls_message}
@@ -26,7 +26,7 @@ use Rattle.mls_cli_check.specs.Check.{all_passed, check_step, ok_line, page_behi
 
 -- ---- what the file has
 
--- the GroupInfo that a message is: 95 another kind (RFC 9420, 6)
+-- the GroupInfo that a message is: `WrongMessageKind` (95) another kind (RFC 9420, 6)
 abbrev pub group_info_of : MlsMessage → Result GroupInfo ℕ
 group_info_of (message.GroupInfo info) = Ok info
 group_info_of (message.PublicMessage v) = Err 95
@@ -37,14 +37,14 @@ group_info_of (message.KeyPackage v) = Err 95
 unfoldable pub group_info_in : List ℕ → Result GroupInfo ℕ
 group_info_in spelled = whole mls_message input_limit spelled >>= group_info_of
 
--- the one of two suites that its context names: 71 it names another (RFC 9420, 8.1)
+-- the one of two suites that its context names: `WrongSuite` (71) it names another (RFC 9420, 8.1)
 unfoldable pub suite_among : Crypto → Crypto → GroupInfo → Result Crypto ℕ
 suite_among c d info =
     if info.group_context.cipher_suite == c.number then Ok c
     else if info.group_context.cipher_suite == d.number then Ok d
     else Err 71
 
--- its tree: 76 there is none, 20 and 21 its shape and size (RFC 9420, 12.4.3.3)
+-- its tree: `NoTree` (76) there is none, `TreeShape` (20) and `TreeFull` (21) its shape and size (RFC 9420, 12.4.3.3)
 unfoldable pub sent_tree : GroupInfo → Result Term ℕ
 sent_tree info = require_some 76 info.ratchet_tree >>= from_nodes max_leaves
 
@@ -59,26 +59,32 @@ page_if (Refused n) first second = first
 abbrev pub page_then : Page Entry → Page Entry → Page Entry
 page_then first second = page_if first.ending first second
 
--- the checks of a GroupInfo's signer: 78 it is no member, 79 its signature (RFC 9420, 12.4.3.1)
+-- the checks of a GroupInfo's signer: `SignerWrong` (78) it is no member, `GroupInfoSignature` (79) its signature
+-- (RFC 9420, 12.4.3.1)
 unfoldable pub signer_checks : Crypto → GroupInfo → Term → Result Passed ℕ
 signer_checks c info t = do
   signer ← require_some 78 (leaf_of t info.signer)
-  require 79 (verify_with_label c signer.signature_key (codes "GroupInfoTBS") (group_info_tbs info) info.signature)
+  require 79
+      (verify_with_label c signer.signature_key (codes "GroupInfoTBS") (group_info_tbs info)
+      info.signature)
 
 -- the line of the signer, or its refusal
 abbrev pub signer_report : Crypto → Result Passed ℕ → Page Entry
-signer_report c (Ok p) = page_behind (word_line (codes "group_info signature") (signature_word c) ∷ []) all_passed
+signer_report c (Ok p) =
+    page_behind (word_line (codes "group_info signature") (signature_word c) ∷ []) all_passed
 signer_report c (Err n) = refused n
 
--- its tree hash is the tree's, or 77 (RFC 9420, 8.1 and 12.4.3.1); then its signer
+-- its tree hash is the tree's, or `TreeHashWrong` (77) (RFC 9420, 8.1 and 12.4.3.1); then its signer
 unfoldable pub info_checks : Crypto → GroupInfo → Term → Page Entry
 info_checks c info t =
-    check_step 77 (bytes_eq info.group_context.tree_hash (tree_hash 0 t)) (ok_line (codes "tree_hash matches"))
+    check_step 77 (bytes_eq info.group_context.tree_hash (tree_hash 0 t))
+    (ok_line (codes "tree_hash matches"))
     (signer_report c (signer_checks c info t))
 
 -- the lines of the tree for the context's group, then those of the GroupInfo
 abbrev pub info_report : Crypto → GroupInfo → Term → Page Entry
-info_report c info t = page_then (tree_report c info.group_context.group_id t) (info_checks c info t)
+info_report c info t =
+    page_then (tree_report c info.group_context.group_id t) (info_checks c info t)
 
 abbrev pub tree_or_refusal : Crypto → GroupInfo → Result Term ℕ → Page Entry
 tree_or_refusal c info (Ok t) = info_report c info t

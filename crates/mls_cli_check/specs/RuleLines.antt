@@ -7,7 +7,8 @@ use Rattle.mls_cli_check.specs.Check.{key_word, ok_line, signature_word, word_li
 -- the lines of all checks of a good tree
 unfoldable pub rule_entries : Crypto → List Entry
 rule_entries c =
-    ok_line (codes "unmerged") ∷ ok_line (codes "parent_hashes") ∷ ok_line (codes "keys") ∷ ok_line (codes "clients")
+    ok_line (codes "unmerged") ∷ ok_line (codes "parent_hashes") ∷ ok_line (codes "keys")
+    ∷ ok_line (codes "clients")
     ∷ word_line (codes "signatures") (signature_word c) ∷ ok_line (codes "capabilities")
     ∷ word_line (codes "key_forms") (key_word c) ∷ []
 

@@ -22,7 +22,8 @@ unchecked = record {
   aead_open = λ key nonce aad ct. Some ct;
 }
 
-opened : (sk info pt rnd : List ℕ) (s : Sealing) → Some (open_sealing pt) ≡ Some s → Some s.ct ≡ Some pt
+opened : (sk info pt rnd : List ℕ) (s : Sealing) → Some (open_sealing pt) ≡ Some s
+    → Some s.ct ≡ Some pt
 opened sk info pt rnd s e = (let same : open_sealing pt ≡ s = cc in rw (← same) refl)
 
 pub unchecked_lawful : Lawful unchecked

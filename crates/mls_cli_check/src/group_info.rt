@@ -3,7 +3,7 @@
 ghost use Rattle.std.specs.Prelude.{◌≡◌, ◌<◌, ◌^◌, ℕ, length, IfOk, IsOk, Err};
 ghost use Rattle.std.specs.Str.{bytes_eq};
 ghost use Rattle.mls_wire.specs.Checks.{Answers, passed};
-ghost use Rattle.mls_leaf.specs.Faults.{whole};
+ghost use Rattle.mls_wire.specs.Whole.{whole};
 ghost use Rattle.mls_leaf.specs.Limits.{input_limit};
 ghost use Rattle.mls_types.specs.GroupInfo.{group_info, group_info_tbs, ratchet_tree};
 ghost use Rattle.mls_types.specs.Message.{mls_message};
@@ -92,7 +92,8 @@ fn check_signer<S: Suite>(
     tree: &PublicTree,
 ) -> Result<(), CheckError>
     requires { IsShort group_info info.now }
-    ensures { Answers (λ _. passed) number_of (signer_checks S.crypto info.now (term tree.now)) result }
+    ensures { Answers (λ _. passed) number_of
+        (signer_checks S.crypto info.now (term tree.now)) result }
 {
     let Some(signer) = tree.leaf(info.signer) else {
         return Err(CheckError::SignerWrong);
@@ -131,7 +132,8 @@ fn with_signer<S: Suite>(
 
 /// Whether the tree hash of a GroupInfo's context is that of the tree.
 fn has_tree_hash(info: &GroupInfo, tree: &mut PublicTree) -> bool
-    ensures value { result ≡ bytes_eq info.now.group_context.tree_hash (tree_hash 0 (term tree.old)) }
+    ensures value { result
+        ≡ bytes_eq info.now.group_context.tree_hash (tree_hash 0 (term tree.old)) }
     ensures same { term tree.new ≡ term tree.old }
 {
     let hash = tree.tree_hash();
@@ -210,7 +212,8 @@ fn page_of_info<S: Suite, T: Suite>(
     info: &GroupInfo,
 ) -> Result<Page<Line>, AllocError>
     requires { IsShort group_info info.now }
-    ensures { MakesPage result (suite_or_refusal info.now (suite_among S.crypto T.crypto info.now)) }
+    ensures { MakesPage result
+        (suite_or_refusal info.now (suite_among S.crypto T.crypto info.now)) }
 {
     let suite = info.group_context.cipher_suite;
     if suite == S::NUMBER {

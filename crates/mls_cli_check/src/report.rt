@@ -1,7 +1,7 @@
 //! What the checks of a tree bring: a line of each that passed, and the first that failed.
 
 ghost use Rattle.std.specs.Prelude.{◌≡◌, ◌≢◌, ℕ, ◌<◌, ◌≤◌, ◌^◌, length, map, take, Err, IfOk, IsOk};
-ghost use Rattle.mls_leaf.specs.Faults.{whole};
+ghost use Rattle.mls_wire.specs.Whole.{whole};
 ghost use Rattle.mls_leaf.specs.Limits.{input_limit};
 ghost use Rattle.mls_types.specs.GroupInfo.{ratchet_tree};
 ghost use Rattle.mls_tree.specs.Faults.{number_of as tree_number_of};
@@ -76,7 +76,8 @@ fn all_rule_lines<S: Suite>(alloc: Global) -> Result<Vec<Line>, AllocError>
 
 /// The lines of the first of the checks of a good tree.
 fn rule_lines<S: Suite>(alloc: Global, passed: usize) -> Result<Vec<Line>, AllocError>
-    ensures { IfOk result (λ lines. map entry_of lines.items ≡ take passed (rule_entries S.crypto)) }
+    ensures { IfOk result (λ lines. map entry_of lines.items
+        ≡ take passed (rule_entries S.crypto)) }
 {
     let mut lines = all_rule_lines::<S>(alloc)?;
     lines.truncate(passed);

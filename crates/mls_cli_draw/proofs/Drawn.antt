@@ -1,14 +1,14 @@
 -- Rows, and the picture.
-use Rattle.std.proofs.Common.{◌≡◌, ◌∙◌, ◌+◌, ◌-◌, ◌*◌, ◌<◌, ◌++◌, ℕ, zero, suc, List, [], ◌∷◌, Option, Some, None, encode_utf8, encode_utf8_all, get_or, length, map, take, refl, ap, sym, arith, append-nil}
+use Rattle.std.proofs.Common.{◌≡◌, ◌∙◌, ◌+◌, ◌-◌, ◌*◌, ◌<◌, ◌++◌, ℕ, zero, suc, Bool, List, [], ◌∷◌, Option, Some, None, encode_utf8, encode_utf8_all, get_or, length, map, take, refl, ap, sym, arith, append-nil}
 use Rattle.std.proofs.lemmas.List.{map-append, take_more}
 use Rattle.std.proofs.lemmas.Str.{encodes-append}
 use Rattle.std.specs.List.{range_with_len}
 use Rattle.mls_leaf.specs.declared.node.Node.{Node}
 use Rattle.mls_tree_model.specs.Term.{Term, size, width}
-use Rattle.mls_tree_model.specs.Arrays.{before, cut as cut_nodes, in_order, node_at, to_nodes}
+use Rattle.mls_tree_model.specs.Arrays.{before, without_last_blanks as cut_nodes, in_order, node_at, to_nodes}
 use Rattle.mls_tree_model.proofs.ArrayLaws.{node-in_order}
 use Rattle.mls_tree_model.proofs.ShapeLaws.{size-width}
-use Rattle.mls_cli_draw.specs.Picture.{characters_of, cut_to, node_text, row, stem}
+use Rattle.mls_cli_draw.specs.Picture.{characters_of, cut_to, is_on, node_text, row, stem}
 use Rattle.mls_cli_draw.specs.Stems.{IsOfTree}
 use Rattle.mls_cli_draw.specs.declared.row.Row.{Row}
 
@@ -41,12 +41,15 @@ sent_node t x =
     let here : 2 * 0 + x ≡ x = omega arith in
     look_cut (in_order t) x ∙ sym (node-in_order 0 t x) ∙ ap (λ n. node_at 0 t n) here
 
-pub row_is : (h : ℕ) (t : Term) (leaves : ℕ) (nodes : List (Option Node)) (x : ℕ) (columns : Option ℕ) (start a b out : List ℕ) (found : Option Node) → IsOfTree h t leaves nodes → start ≡ [] → a ≡ start ++ stem t x → b ≡ a ++ node_text x found → found ≡ get_or nodes x None → out ≡ cut_to columns b → out ≡ row columns t x
+pub row_is : (h : ℕ) (t : Term) (leaves : ℕ) (nodes : List (Option Node)) (path : List ℕ) (x : ℕ) (columns : Option ℕ) (start a b out : List ℕ) (on : Bool) (found : Option Node) → IsOfTree h t leaves nodes → start ≡ [] → a ≡ start ++ stem t x → b ≡ a ++ node_text on x found → on ≡ is_on path x → found ≡ get_or nodes x None → out ≡ cut_to columns b → out ≡ row columns path t x
 unfolding row
-row_is h t leaves nodes x columns start a b out found is e first second look cuts =
+row_is h t leaves nodes path x columns start a b out on found is e first second marked look cuts =
     let front : a ≡ stem t x = first ∙ ap (λ cs. cs ++ stem t x) e in
     let node : found ≡ node_at 0 t x = look ∙ ap (λ ns. get_or ns x None) is.nodes_are ∙ sent_node t x in
-    cuts ∙ ap (cut_to columns) (second ∙ ap (λ cs. cs ++ node_text x found) front ∙ ap (λ n. stem t x ++ node_text x n) node)
+    cuts
+    ∙ ap (cut_to columns)
+    (second ∙ ap (λ cs. cs ++ node_text on x found) front ∙ ap (λ n. stem t x ++ node_text on x n) node
+    ∙ ap (λ (m : Bool). stem t x ++ node_text m x (node_at 0 t x)) marked)
 
 -- ---- the picture
 
@@ -56,14 +59,14 @@ range_more a (suc n) =
     let e : (a + 1) + n ≡ a + suc n = omega arith in
     ap (λ ms. a ∷ ms) (range_more (a + 1) n ∙ ap (λ m. range_with_len (a + 1) n ++ m ∷ []) e)
 
-pub one_row : (columns : Option ℕ) (t : Term) (x : ℕ) (r : Row) (old new : List Row) → map characters_of old ≡ map (row columns t) (range_with_len 0 x) → new ≡ old ++ r ∷ [] → r.characters.items ≡ row columns t x → map characters_of new ≡ map (row columns t) (range_with_len 0 (x + 1))
-one_row columns t x r old new before pushed is =
+pub one_row : (columns : Option ℕ) (path : List ℕ) (t : Term) (x : ℕ) (r : Row) (old new : List Row) → map characters_of old ≡ map (row columns path t) (range_with_len 0 x) → new ≡ old ++ r ∷ [] → r.characters.items ≡ row columns path t x → map characters_of new ≡ map (row columns path t) (range_with_len 0 (x + 1))
+one_row columns path t x r old new before pushed is =
     let here : 0 + x ≡ x = omega arith in
     let next : x + 1 ≡ suc x = omega arith in
     let ranges : range_with_len 0 (x + 1) ≡ range_with_len 0 x ++ x ∷ [] = ap (range_with_len 0) next ∙ range_more 0 x ∙ ap (λ m. range_with_len 0 x ++ m ∷ []) here in
     ap (map characters_of) pushed ∙ map-append characters_of old (r ∷ []) ∙ ap (λ rs. rs ++ r.characters.items ∷ []) before
-    ∙ ap (λ cs. map (row columns t) (range_with_len 0 x) ++ cs ∷ []) is
-    ∙ sym (ap (map (row columns t)) ranges ∙ map-append (row columns t) (range_with_len 0 x) (x ∷ []))
+    ∙ ap (λ cs. map (row columns path t) (range_with_len 0 x) ++ cs ∷ []) is
+    ∙ sym (ap (map (row columns path t)) ranges ∙ map-append (row columns path t) (range_with_len 0 x) (x ∷ []))
 
 pub all_nodes : (t : Term) (leaves : ℕ) → leaves ≡ width t → 2 * leaves - 1 ≡ size t
 all_nodes t leaves e = omega (arith, size-width t, e)

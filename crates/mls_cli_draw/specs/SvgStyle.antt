@@ -12,13 +12,15 @@ text_style =
     ∷ codes ".unmerged{fill:#b45309}"
     ∷ []
 
--- shapes: members' leaves are green, other parents blue, blank nodes dashed and empty
+-- shapes: members' leaves are green, other parents blue, blank nodes dashed and empty, those of the last path have thick
+-- edges
 abbrev pub shape_style : List (List ℕ)
 shape_style =
     codes "path{fill:none;stroke:#cbd5e1;stroke-width:2}"
     ∷ codes ".leaf rect{fill:#dcefe6;stroke:#5f9f83;stroke-width:1.5}"
     ∷ codes ".parent circle{fill:#dbe7f5;stroke:#6b8fc0;stroke-width:1.5}"
     ∷ codes ".blank rect,.blank circle{fill:#fff;stroke:#94a3b8;stroke-dasharray:4 3}"
+    ∷ codes ".renewed rect,.renewed circle{stroke-width:4}"
     ∷ []
 
 -- before a white ground

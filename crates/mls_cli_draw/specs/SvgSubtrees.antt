@@ -33,13 +33,15 @@ pub record HasRoom (s : Subtree) : Type 0 where
 pub record IsSubtree (h : ℕ) (t : Term) (s : Subtree) (nodes : List (Option Node)) : Type 0 where
   pub perfect : is_perfect h t ≡ true
   pub leaves_are : width t ≡ s.leaves
-  pub held : (x : ℕ) → x < size t → get_or nodes (2 * s.first + x) None ≡ node_at s.first t (2 * s.first + x)
+  pub held : (x : ℕ) → x < size t
+      → get_or nodes (2 * s.first + x) None ≡ node_at s.first t (2 * s.first + x)
 
--- the rows of a subtree are put behind the old ones, for each such tree
-abbrev pub PushesSubtree : {T X : Type 0} → Subtree → List (Option Node) → List Row → List Row → Result T X → Type 0
-PushesSubtree s nodes old new result =
+-- the rows of a subtree are put behind the old ones, for each such tree, where the last path has these nodes
+abbrev pub PushesSubtree : {T X : Type 0} → Subtree → List (Option Node) → List ℕ
+    → List Row → List Row → Result T X → Type 0
+PushesSubtree s nodes path old new result =
     (h : ℕ) (t : Term) → IsSubtree h t s nodes
-    → OnOk result (map characters_of new ≡ map characters_of old ++ drawn s.depth s.first t)
+    → OnOk result (map characters_of new ≡ map characters_of old ++ drawn path s.depth s.first t)
 
 -- the height of each perfect tree with so many leaves
 abbrev pub IsHeight : ℕ → ℕ → Type 0

@@ -6,7 +6,7 @@ ghost use Rattle.mls_tree_model.specs.Term.{Term};
 ghost use Rattle.mls_cli_draw.specs.Picture.{DrawsPage, picture, row};
 ghost use Rattle.mls_cli_draw.specs.Stems.{IsOfTree};
 
-use crate::nodes::{node_in, push_node};
+use crate::nodes::{is_on, node_in, push_node};
 use crate::row::{Row, cut_to};
 use crate::stem::push_stem;
 use mls_cli_text::{Ending, Page};
@@ -14,20 +14,23 @@ use mls_tree::PublicTree;
 use mls_tree_slot::Slot;
 use std::alloc::{AllocError, Global};
 
-/// The row of a node of a tree with these leaves and nodes.
+/// The row of a node of a tree with these leaves and nodes, and of its last path.
 fn row(
     alloc: Global,
     leaves: usize,
     nodes: &[Slot],
+    path: &[u32],
     node: usize,
     columns: Option<usize>,
 ) -> Result<Row, AllocError>
     ensures { (h : ℕ) (t : Term) → IsOfTree h t leaves nodes.now
-        → IfOk result (λ r. r.characters.items ≡ row columns t node) }
+        → IfOk result (λ r. r.characters.items ≡ row columns path.now t node) }
 {
     let mut characters = Vec::new(alloc);
     push_stem(&mut characters, leaves, node)?;
-    push_node(alloc, &mut characters, node, node_in(nodes, node))?;
+    let on_path = is_on(path, node);
+    let found = node_in(nodes, node);
+    push_node(alloc, &mut characters, on_path, node, found)?;
     Ok(Row {
         characters: cut_to(characters, columns)?,
     })
@@ -35,7 +38,8 @@ fn row(
 
 /// The picture of a ratchet tree (RFC 9420, 7.1), each row cut to as many columns as are given: a row for each node, in
 /// the order of an array (RFC 9420, appendix C), with the root at the left. A member's leaf is drawn with its index and
-/// its identity, a parent with the indexes of its unmerged leaves.
+/// its identity, a parent with the indexes of its unmerged leaves. A star is at each node that the last commit with a
+/// path gave a new key, as the parent hashes tell (RFC 9420, 7.9.2).
 pub fn picture(
     alloc: Global,
     tree: &PublicTree,
@@ -45,9 +49,18 @@ pub fn picture(
 {
     let leaves = tree.leaf_count() as usize;
     let nodes = tree.to_nodes()?;
+    let path = tree.last_path()?;
     let mut rows = Vec::new(alloc);
     for node in 0..2 * leaves - 1 {
-        rows.push(row(alloc, leaves, nodes.as_slice(), node, columns)?)?;
+        let made = row(
+            alloc,
+            leaves,
+            nodes.as_slice(),
+            path.as_slice(),
+            node,
+            columns,
+        )?;
+        rows.push(made)?;
     }
     Ok(Page {
         lines: rows,

@@ -1,10 +1,9 @@
 //! Nodes of a picture: their marks, and what stands behind them.
 
 ghost use Rattle.std.specs.Prelude.{◌≡◌, ◌++◌, OnOk, None, get_or, option_copied};
-ghost use Rattle.std.specs.List.{flat_map};
-ghost use Rattle.std.specs.List.{list_all};
+ghost use Rattle.std.specs.List.{flat_map, list_all, list_any};
 ghost use Rattle.hex.specs.Hex.{encode_lower};
-ghost use Rattle.mls_cli_draw.specs.Picture.{blank_text, identity_text, is_printable, leaf_text, node_text, parent_text, spaced_numbers, unmerged_text};
+ghost use Rattle.mls_cli_draw.specs.Picture.{blank_text, gap, identity_text, is_on, is_printable, leaf_text, node_text, parent_text, spaced_numbers, star, unmerged_text};
 
 use crate::characters::{push_ascii, push_decimal};
 use mls_leaf::{LeafNode, Node, ParentNode};
@@ -21,6 +20,13 @@ pub(crate) fn node_in(nodes: &[Slot], node: usize) -> Option<&Node>
     }
 }
 
+/// Whether a node is among these, as those of the last path.
+pub(crate) fn is_on(path: &[u32], node: usize) -> bool
+    ensures { result ≡ is_on path.now node }
+{
+    path.iter().any(|other| *other as usize == node)
+}
+
 /// Whether each byte is a printable character of ASCII.
 fn is_readable(text: &[u8]) -> bool
     ensures { result ≡ list_all is_printable text.now }
@@ -34,7 +40,8 @@ pub(crate) fn push_identity(
     characters: &mut Vec<char>,
     identity: &[u8],
 ) -> Result<(), AllocError>
-    ensures { OnOk result (characters.new.items ≡ characters.old.items ++ identity_text identity.now) }
+    ensures { OnOk result (characters.new.items
+        ≡ characters.old.items ++ identity_text identity.now) }
 {
     if is_readable(identity) {
         characters.push('"')?;
@@ -46,17 +53,41 @@ pub(crate) fn push_identity(
     }
 }
 
+/// Adds what stands behind the mark of a member's leaf: a star where the leaf is on the last path, else a blank.
+fn push_gap(characters: &mut Vec<char>, on_path: bool) -> Result<(), AllocError>
+    ensures { OnOk result (characters.new.items ≡ characters.old.items ++ gap on_path) }
+{
+    if on_path {
+        push_ascii(characters, b"*")
+    } else {
+        push_ascii(characters, b" ")
+    }
+}
+
+/// Adds a star where a parent is on the last path.
+fn push_star(characters: &mut Vec<char>, on_path: bool) -> Result<(), AllocError>
+    ensures { OnOk result (characters.new.items ≡ characters.old.items ++ star on_path) }
+{
+    if on_path {
+        push_ascii(characters, b"*")
+    } else {
+        Ok(())
+    }
+}
+
 /// Adds a member's leaf: its mark, its index and its identity.
 fn push_leaf(
     alloc: Global,
     characters: &mut Vec<char>,
+    on_path: bool,
     index: u64,
     leaf: &LeafNode,
 ) -> Result<(), AllocError>
-    ensures { OnOk result (characters.new.items ≡ characters.old.items ++ leaf_text index leaf.now) }
+    ensures { OnOk result (characters.new.items
+        ≡ characters.old.items ++ leaf_text on_path index leaf.now) }
 {
     characters.push('■')?;
-    characters.push(' ')?;
+    push_gap(characters, on_path)?;
     push_decimal(alloc, characters, index)?;
     characters.push(' ')?;
     push_identity(alloc, characters, leaf.credential.identity.as_slice())
@@ -68,7 +99,8 @@ pub(crate) fn push_spaced(
     characters: &mut Vec<char>,
     numbers: &[u32],
 ) -> Result<(), AllocError>
-    ensures { OnOk result (characters.new.items ≡ characters.old.items ++ spaced_numbers numbers.now) }
+    ensures { OnOk result (characters.new.items
+        ≡ characters.old.items ++ spaced_numbers numbers.now) }
 {
     for number in numbers {
         characters.push(' ')?;
@@ -81,11 +113,14 @@ pub(crate) fn push_spaced(
 fn push_parent(
     alloc: Global,
     characters: &mut Vec<char>,
+    on_path: bool,
     parent: &ParentNode,
 ) -> Result<(), AllocError>
-    ensures { OnOk result (characters.new.items ≡ characters.old.items ++ parent_text parent.now) }
+    ensures { OnOk result (characters.new.items
+        ≡ characters.old.items ++ parent_text on_path parent.now) }
 {
     characters.push('●')?;
+    push_star(characters, on_path)?;
     if parent.unmerged_leaves().is_empty() {
         return Ok(());
     }
@@ -106,19 +141,20 @@ fn push_blank(alloc: Global, characters: &mut Vec<char>, place: usize) -> Result
     push_decimal(alloc, characters, (place / 2) as u64)
 }
 
-/// Adds what is drawn of a node, by its place in the order of an array.
+/// Adds what is drawn of a node, by its place in the order of an array and whether it is on the last path.
 pub(crate) fn push_node(
     alloc: Global,
     characters: &mut Vec<char>,
+    on_path: bool,
     place: usize,
     node: Option<&Node>,
 ) -> Result<(), AllocError>
     ensures { OnOk result (characters.new.items
-        ≡ characters.old.items ++ node_text place (option_copied node.entry)) }
+        ≡ characters.old.items ++ node_text on_path place (option_copied node.entry)) }
 {
     match node {
-        Some(Node::Leaf(leaf)) => push_leaf(alloc, characters, (place / 2) as u64, leaf),
-        Some(Node::Parent(parent)) => push_parent(alloc, characters, parent),
+        Some(Node::Leaf(leaf)) => push_leaf(alloc, characters, on_path, (place / 2) as u64, leaf),
+        Some(Node::Parent(parent)) => push_parent(alloc, characters, on_path, parent),
         None => push_blank(alloc, characters, place),
     }
 }

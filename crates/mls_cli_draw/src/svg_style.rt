@@ -64,6 +64,11 @@ fn push_shape_style(alloc: Global, rows: &mut Vec<Row>) -> Result<(), AllocError
         alloc,
         rows,
         b".blank rect,.blank circle{fill:#fff;stroke:#94a3b8;stroke-dasharray:4 3}",
+    )?;
+    push_text_row(
+        alloc,
+        rows,
+        b".renewed rect,.renewed circle{stroke-width:4}",
     )
 }
 

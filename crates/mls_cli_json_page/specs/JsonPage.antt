@@ -24,12 +24,14 @@ array items = begin_array ∷ (items ++ end_array ∷ [])
 -- a number and its name, as of a refusal
 abbrev pub named_value : ℕ → List ℕ → List Token
 named_value n name =
-    begin_object ∷ key (codes "number") ∷ number (decimal n) ∷ key (codes "name") ∷ string name ∷ end_object ∷ []
+    begin_object ∷ key (codes "number") ∷ number (decimal n) ∷ key (codes "name") ∷ string name
+    ∷ end_object ∷ []
 
 -- an extension's type in four hex digits, and its data in hex digits
 abbrev pub extension_value : ℕ → List ℕ → List Token
 extension_value kind content =
-    begin_object ∷ key (codes "type") ∷ string (four_digits kind) ∷ key (codes "data") ∷ string (encode_lower content)
+    begin_object ∷ key (codes "type") ∷ string (four_digits kind) ∷ key (codes "data")
+    ∷ string (encode_lower content)
     ∷ end_object ∷ []
 
 -- what stands behind a name: bytes are hex digits, numbers in hex strings, those in decimal numbers
@@ -64,7 +66,8 @@ closing true true = []
 closing false again = []
 
 abbrev pub member : Bool → Bool → List ℕ → Shown → List Token
-member follows again name shown = opening follows again name ++ (value shown ++ closing follows again)
+member follows again name shown =
+    opening follows again name ++ (value shown ++ closing follows again)
 
 abbrev pub name_at : List Entry → ℕ → Option (List ℕ)
 name_at es i = option_map (λ (e : Entry). e.name) (slice_get es i)
@@ -75,7 +78,8 @@ name_before es (suc i) = name_at es i
 
 abbrev pub member_of : Option (List ℕ) → Option Entry → Option (List ℕ) → List Token
 member_of before None after = []
-member_of before (Some e) after = member (is_name e.name before) (is_name e.name after) e.name e.shown
+member_of before (Some e) after =
+    member (is_name e.name before) (is_name e.name after) e.name e.shown
 
 -- line i of a page
 abbrev pub member_at : List Entry → ℕ → List Token
@@ -93,7 +97,8 @@ unfoldable pub members : List Entry → List Token
 members es = flat_map (member_at es) (range_with_len 0 (length es))
 
 abbrev pub page_tokens : Page Entry → List Token
-page_tokens page = begin_object ∷ (members page.entries ++ (ending_member page.ending ++ end_object ∷ []))
+page_tokens page =
+    begin_object ∷ (members page.entries ++ (ending_member page.ending ++ end_object ∷ []))
 
 -- a refusal stands in the object, and the exit status stays
 abbrev pub json_ending : Ending → Ending
@@ -103,7 +108,8 @@ json_ending (Refused n) = Failed
 
 -- the page of the object alone
 unfoldable pub json_page : Page Entry → Page (List ℕ)
-json_page page = record { entries = print (page_tokens page) ∷ []; ending = json_ending page.ending }
+json_page page =
+    record { entries = print (page_tokens page) ∷ []; ending = json_ending page.ending }
 
 -- an object as it is printed
 abbrev pub object_line : List ℕ → List ℕ
@@ -120,4 +126,5 @@ printed t = object_line (text_of t)
 
 -- these tokens are written behind the others
 abbrev pub WritesAll : {T X : Type 0} → Result T X → Written → Written → List Token → Type 0
-WritesAll result old new ts = OnOk result ((new.tokens ≡ old.tokens ++ ts) × (new.before ≡ old.before))
+WritesAll result old new ts =
+    OnOk result ((new.tokens ≡ old.tokens ++ ts) × (new.before ≡ old.before))

@@ -62,7 +62,8 @@ fn json_ending(ending: Ending) -> Ending
 /// that the page ends with; its exit status is the page's.
 #[tactic(auto, unfolding(crate::specs::JsonPage::json_page))]
 pub fn json_page(alloc: Global, page: &Page<Line>) -> Result<Page<JsonText>, AllocError>
-    ensures { IfOk result (λ made. page_of text_of made ≡ json_page (page_of entry_of page.now)) }
+    ensures { IfOk result (λ made. page_of text_of made
+        ≡ json_page (page_of entry_of page.now)) }
 {
     let mut writer = Writer::new(Vec::new(alloc));
     writer.begin_object()?;
@@ -77,6 +78,3 @@ pub fn json_page(alloc: Global, page: &Page<Line>) -> Result<Page<JsonText>, All
         ending: json_ending(page.ending),
     })
 }
-
-#[cfg(test)]
-mod tests;

@@ -25,7 +25,8 @@ fn name_of(alloc: Global, line: &Line) -> Result<String, AllocError>
 
 /// The name of the line of this number, or None where there is none.
 fn name_at(alloc: Global, lines: &[Line], number: usize) -> Result<Option<String>, AllocError>
-    ensures { IfOk result (λ name. option_map string_bytes name ≡ name_at (map entry_of lines.now) number) }
+    ensures { IfOk result (λ name. option_map string_bytes name
+        ≡ name_at (map entry_of lines.now) number) }
 {
     match lines.get(number) {
         Some(line) => Ok(Some(name_of(alloc, line)?)),

@@ -23,6 +23,3 @@ pub use key::Key;
 pub use place::{JsonPlace, Wrong};
 pub use recording::place_of_recording;
 pub use vectors::place_of_vectors;
-
-#[cfg(test)]
-mod tests;

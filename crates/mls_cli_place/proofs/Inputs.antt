@@ -4,7 +4,7 @@ use Rattle.std.specs.Option.{option_map}
 use Rattle.std.specs.Prelude.{IfSome}
 use Rattle.mls_wire.specs.Format.{Format, IsBytes}
 use Rattle.mls_wire.specs.Reading.{◌>>=◌, rest_of}
-use Rattle.mls_leaf.specs.Faults.{whole}
+use Rattle.mls_wire.specs.Whole.{whole}
 use Rattle.mls_leaf.specs.Limits.{input_limit}
 use Rattle.mls_cli_place.specs.declared.place.Found.{Found}
 use Rattle.mls_cli_place.specs.Finding.{Finds, Within, number_in}

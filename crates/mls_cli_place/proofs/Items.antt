@@ -3,7 +3,7 @@ use Rattle.std.proofs.Common.{◌≡◌, ℕ, zero, suc, ◌+◌, ◌<◌, ◌�
 use Rattle.mls_wire.specs.Format.{Format, IsBytes}
 use Rattle.mls_wire.specs.Laws.{opaque_bytes}
 use Rattle.mls_wire.specs.Reading.{opaque_at}
-use Rattle.mls_wire.specs.CombineLaws.{IsNonempty}
+use Rattle.mls_wire.specs.CombineReads.{IsNonempty}
 use Rattle.mls_leaf.proofs.Loops.{is_shorter_past}
 use Rattle.mls_cli_place.specs.declared.place.Found.{Found}
 use Rattle.mls_cli_place.specs.declared.step.Step.TheVariants.{Item}

@@ -7,7 +7,8 @@ use Rattle.std.specs.Prelude.{IfSome}
 use Rattle.mls_wire.specs.Combine.{optional}
 use Rattle.mls_wire.specs.Format.{Format}
 use Rattle.mls_wire.specs.Reading.{uint, header, opaque}
-use Rattle.mls_leaf.specs.Faults.{Spells, whole}
+use Rattle.mls_wire.specs.Whole.{whole}
+use Rattle.mls_leaf.specs.Faults.{Spells}
 use Rattle.mls_leaf.specs.GroupExtensions.{group_extensions}
 use Rattle.mls_leaf.specs.Limits.{input_limit}
 use Rattle.mls_leaf.specs.Node.{node}

@@ -6,8 +6,9 @@ use Rattle.std.proofs.lemmas.List.{length-append}
 use Rattle.mls_wire.specs.Reading.{◌>>=◌, rest_of, uint, uint_at, header, opaque, opaque_at}
 use Rattle.mls_wire.specs.Format.{IsBytes, Takes, Format, Skip}
 use Rattle.mls_wire.specs.Laws.{IsWide, ok_is, uint_lawful, opaque_takes, opaque_bytes, wide8}
-use Rattle.mls_wire.specs.CombineLaws.{IsNonempty, body_past, good, items_past}
+use Rattle.mls_wire.specs.CombineLaws.{good}
 use Rattle.mls_wire.specs.Combine.{Cases, case, left_format, is_optional_tag, optional, optional_body, optional_tag_of, others, right_format, vector}
+use Rattle.mls_wire.specs.CombineReads.{IsNonempty, body_past, items_past}
 use Rattle.mls_cli_place.specs.declared.place.Found.{Found}
 use Rattle.mls_cli_place.specs.declared.step.Step.{Step}
 use Rattle.mls_cli_place.specs.declared.step.Step.TheVariants.{Item}

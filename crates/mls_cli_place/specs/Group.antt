@@ -12,7 +12,8 @@ use Rattle.mls_cli_place.specs.declared.step.Step.TheVariants.{Group, Item, Leaf
 use Rattle.mls_cli_place.specs.Tree.{ratchet_tree_walk}
 use Rattle.mls_cli_place.specs.Walk.{◌▷◌, Walk, at_front, enclosed, field, followed, inside, located, single, string_field}
 
--- GroupContext (RFC 9420, 8.1): version is 1, else 7; extensions of types for private use, each at most once, else 14
+-- GroupContext (RFC 9420, 8.1): version is 1, else `BadTag` (7); extensions of types for private use, each at most
+-- once, else `ExtensionNotAllowed` (14)
 unfoldable pub group_context_walk : Walk
 group_context_walk =
     single (Leaf leaf.Version) (mark_at w16 1 7) ▷ single (Leaf leaf.CipherSuite) uint16.pass
@@ -22,7 +23,7 @@ group_context_walk =
 
 -- ---- the extensions of a GroupInfo (RFC 9420, 12.4.3): none, or the ratchet tree's alone
 
--- bytes behind a whole are 3, where they begin
+-- bytes behind a whole are `Trailing` (3), where they begin
 abbrev pub ended : List ℕ → Result (Unit {0}) Found
 ended bytes = if length bytes == 0 then Ok tt else Err (at_front bytes 3)
 
@@ -30,13 +31,13 @@ ended bytes = if length bytes == 0 then Ok tt else Err (at_front bytes 3)
 abbrev pub tree_data : List ℕ → Result (Unit {0}) Found
 tree_data bytes = followed (inside (Group group.RatchetTree) (ratchet_tree_walk bytes)) ended
 
--- extension_type is 2, ratchet_tree, else 14 (RFC 9420, 17.3)
+-- extension_type is 2, ratchet_tree, else `ExtensionNotAllowed` (14) (RFC 9420, 17.3)
 unfoldable pub tree_extension_walk : Walk
 tree_extension_walk =
     single (Group group.ExtensionType) (mark_at w16 2 14)
     ▷ field (Group group.ExtensionData) (enclosed tree_data)
 
--- the type of a second extension is read, and is 14
+-- the type of a second extension is read, and is `ExtensionNotAllowed` (14)
 abbrev pub second_extension : List ℕ → Result (Unit {0}) Found
 second_extension bytes =
     inside (Item 1) (inside (Group group.ExtensionType)

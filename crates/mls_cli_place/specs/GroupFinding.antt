@@ -3,12 +3,12 @@ use Rattle.std.specs.Prelude.{◌≡◌, ℕ, ◌==◌, Bool, true, false, if◌
 use Rattle.std.specs.Int.{w16}
 use Rattle.std.proofs.Common.{ap, arith, lit<, ◌∙◌}
 use Rattle.mls_wire.specs.Combine.{byte_string, mark, uint16, uint32, uint64}
-use Rattle.mls_wire.specs.CombineLaws.{ended_past}
 use Rattle.mls_wire.specs.Reading.{◌>>=◌, uint_at}
+use Rattle.mls_wire.specs.CombineReads.{ended_past}
 use Rattle.mls_leaf.specs.GroupExtensions.{group_extensions}
-use Rattle.mls_types.specs.Enclosed.{alone_past, one_past}
 use Rattle.mls_types.specs.GroupContext.{group_context}
 use Rattle.mls_types.specs.GroupInfo.{group_info, group_info_extensions, ratchet_tree, tree_extension}
+use Rattle.mls_types.specs.EnclosedReads.{alone_past, one_past}
 use Rattle.mls_cli_place.specs.declared.place.Found.{Found}
 use Rattle.mls_cli_place.specs.declared.step.GroupField.TheVariants as group
 use Rattle.mls_cli_place.specs.declared.step.Step.{Step}

@@ -9,7 +9,7 @@ use Rattle.mls_cli_place.specs.declared.step.LeafField.TheVariants as leaf
 use Rattle.mls_cli_place.specs.declared.step.Step.TheVariants.{Leaf}
 use Rattle.mls_cli_place.specs.Walk.{◌▷◌, Walk, by_tag, case_of, enclosed_by, field, no_case, no_field, single, string_field}
 
--- (RFC 9420, 5.3) credential_type is 1, else 11
+-- (RFC 9420, 5.3) credential_type is 1, else `UnsupportedCredential` (11)
 unfoldable pub credential_walk : Walk
 credential_walk =
     single (Leaf leaf.CredentialType) (mark_at w16 1 11) ▷ string_field (Leaf leaf.Identity)
@@ -25,7 +25,7 @@ capabilities_walk =
 abbrev pub lifetime_walk : Walk
 lifetime_walk = single (Leaf leaf.NotBefore) uint64.pass ▷ single (Leaf leaf.NotAfter) uint64.pass
 
--- (RFC 9420, 7.2) leaf_node_source: 1 key_package, 2 update, 3 commit, else 7
+-- (RFC 9420, 7.2) leaf_node_source: 1 key_package, 2 update, 3 commit, else `BadTag` (7)
 abbrev pub sources : ℕ → Option Walk
 sources t =
     case_of 1 (field (Leaf leaf.Lifetime) lifetime_walk)
@@ -36,7 +36,7 @@ unfoldable pub leaf_source_walk : Walk
 leaf_source_walk bytes =
     by_tag (enclosed_by (Leaf leaf.LeafNodeSource)) 7 sources bytes (uint_at w8 bytes)
 
--- (RFC 9420, 7.2) the list of extensions is empty, else 14
+-- (RFC 9420, 7.2) the list of extensions is empty, else `ExtensionNotAllowed` (14)
 unfoldable pub leaf_node_walk : Walk
 leaf_node_walk =
     string_field (Leaf leaf.EncryptionKey) ▷ string_field (Leaf leaf.SignatureKey)
@@ -45,14 +45,15 @@ leaf_node_walk =
     ▷ leaf_source_walk
     ▷ single (Leaf leaf.Extensions) (empty_at 14) ▷ string_field (Leaf leaf.Signature)
 
--- (RFC 9420, 10) version is 1, else 7; the list of extensions is empty, else 14
+-- (RFC 9420, 10) version is 1, else `BadTag` (7); the list of extensions is empty, else `ExtensionNotAllowed` (14)
 unfoldable pub key_package_walk : Walk
 key_package_walk =
     single (Leaf leaf.Version) (mark_at w16 1 7) ▷ single (Leaf leaf.CipherSuite) uint16.pass
     ▷ string_field (Leaf leaf.InitKey) ▷ field (Leaf leaf.LeafNode) leaf_node_walk
     ▷ single (Leaf leaf.Extensions) (empty_at 14) ▷ string_field (Leaf leaf.Signature)
 
--- (RFC 9420, 12.1) proposal_type: 1 add, 2 update, 3 remove, 7 group_context_extensions, else 12
+-- (RFC 9420, 12.1) proposal_type: 1 add, 2 update, 3 remove, 7 group_context_extensions, else
+-- `UnsupportedProposal` (12)
 abbrev pub proposals : ℕ → Option Walk
 proposals t =
     case_of 1 (field (Leaf leaf.KeyPackage) key_package_walk)

@@ -8,6 +8,7 @@ pub mod File
 pub mod Text
 pub mod TextLaws
 pub mod TreePlace
+pub mod Parents
 pub mod Breach
 pub mod Finding
 pub mod LeafFinding

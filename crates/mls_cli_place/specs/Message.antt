@@ -32,7 +32,7 @@ update_path_walk =
     field (Leaf leaf.LeafNode) leaf_node_walk
     ▷ field (Message message.Nodes) (vector_of update_path_node_walk)
 
--- ProposalOrRef (RFC 9420, 12.4): type 1 proposal, 2 reference, else 7
+-- ProposalOrRef (RFC 9420, 12.4): type 1 proposal, 2 reference, else `BadTag` (7)
 abbrev pub proposals_or_refs : ℕ → Option Walk
 proposals_or_refs t =
     case_of 1 (field (Message message.Proposal) proposal_walk)
@@ -50,7 +50,7 @@ commit_walk =
 
 -- ---- public messages
 
--- Sender (RFC 9420, 6): sender_type 1 member, else 7
+-- Sender (RFC 9420, 6): sender_type 1 member, else `BadTag` (7)
 abbrev pub senders : ℕ → Option Walk
 senders t = case_of 1 (single (Message message.LeafIndex) uint32.pass) no_case t
 
@@ -68,7 +68,8 @@ signature_walk = field (Message message.Auth) (string_field (Leaf leaf.Signature
 abbrev pub tag_walk : Walk
 tag_walk = field (Message message.Auth) (string_field (Message message.ConfirmationTag))
 
--- content_type: 1 application, 2 proposal, 3 commit, else 7, with the content and what vouches for it (RFC 9420, 6 and 6.1)
+-- content_type: 1 application, 2 proposal, 3 commit, else `BadTag` (7), with the content and what vouches for it
+-- (RFC 9420, 6 and 6.1)
 abbrev pub contents : ℕ → Option Walk
 contents t =
     case_of 1 (in_content (string_field (Message message.ApplicationData)) ▷ signature_walk)
@@ -113,7 +114,8 @@ welcome_walk =
 
 -- ---- MLSMessage
 
--- wire_format: 1 mls_public_message, 3 mls_welcome, 4 mls_group_info, 5 mls_key_package, else 7 (RFC 9420, 6 and 17.2)
+-- wire_format: 1 mls_public_message, 3 mls_welcome, 4 mls_group_info, 5 mls_key_package, else `BadTag` (7) (RFC 9420, 6
+-- and 17.2)
 abbrev pub wire_formats : ℕ → Option Walk
 wire_formats t =
     case_of 1 (field (Message message.PublicMessage) public_message_walk)
@@ -125,6 +127,6 @@ unfoldable pub body_walk : Walk
 body_walk bytes =
     by_tag (enclosed_by (Message message.WireFormat)) 7 wire_formats bytes (uint_at w16 bytes)
 
--- (RFC 9420, 6) version is 1, else 7
+-- (RFC 9420, 6) version is 1, else `BadTag` (7)
 unfoldable pub mls_message_walk : Walk
 mls_message_walk = single (Leaf leaf.Version) (mark_at w16 1 7) ▷ body_walk

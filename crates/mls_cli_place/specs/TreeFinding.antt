@@ -7,7 +7,7 @@ use Rattle.mls_wire.specs.Stateful.{vector_from}
 use Rattle.mls_leaf.specs.Leaf.{leaf_node}
 use Rattle.mls_leaf.specs.Node.{node}
 use Rattle.mls_leaf.specs.Nonempty.{optional_nonempty}
-use Rattle.mls_leaf.specs.ParentNode.{parent_node, rising}
+use Rattle.mls_leaf.specs.ParentNode.{parent_node, rising_rule}
 use Rattle.mls_types.specs.GroupInfo.{ratchet_tree}
 use Rattle.mls_cli_place.specs.Finding.{Finds, chooses_case, chooses_none, finds_field, finds_one, finds_optional, finds_tagged, finds_then, finds_vector, places_in}
 use Rattle.mls_cli_place.specs.LeafFinding.{leaf_node_finds}
@@ -16,7 +16,7 @@ use Rattle.mls_cli_place.specs.Tree.{node_walk, parent_node_walk, ratchet_tree_w
 pub parent_node_finds : Finds parent_node_walk parent_node.pass
 unfolding parent_node_walk parent_node
 parent_node_finds =
-    finds_then (finds_field _ (finds_one byte_string)) (finds_then (finds_field _ (finds_one byte_string)) (finds_field _ (finds_one (vector_from rising 0))))
+    finds_then (finds_field _ (finds_one byte_string)) (finds_then (finds_field _ (finds_one byte_string)) (finds_field _ (finds_one (vector_from rising_rule 0))))
 
 pub node_finds : Finds node_walk node.pass
 unfolding node_walk node

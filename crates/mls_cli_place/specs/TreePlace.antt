@@ -23,19 +23,20 @@ IsFirstFailing test n found =
 
 -- ---- the tests, by the number of a leaf or of a node
 
--- 51: the signature of leaf i is its own, where it isn't blank
+-- `LeafSignature` (51): the signature of leaf i is its own, where it isn't blank
 abbrev pub leaf_is_signed : Crypto → List ℕ → Term → ℕ → Bool
 leaf_is_signed c group t i = passes (is_signed c group) i (leaf_of t i)
 
--- 52: leaf i lists version 1, the suite and credential 1, where it isn't blank
+-- `LeafCapability` (52): leaf i lists version 1, the suite and credential 1, where it isn't blank
 abbrev pub leaf_is_capable : ℕ → Term → ℕ → Bool
 leaf_is_capable suite t i = passes (λ j v. is_capable suite v) i (leaf_of t i)
 
--- 36: the encryption key of node x, of those that are sent, is fit for sealing, where it isn't blank
+-- `BadKey` (36): the encryption key of node x, of those that are sent, is fit for sealing, where it isn't blank
 abbrev pub node_is_fit : Crypto → List (Option Node) → ℕ → Bool
 node_is_fit c xs x = list_all c.key_ok (cell_keys (slice_index_or xs x None))
 
--- 20: node x, of those that are sent, is a leaf at an even place or a parent at an odd one, where it isn't blank
+-- `TreeShape` (20): node x, of those that are sent, is a leaf at an even place or a parent at an odd one, where it
+-- isn't blank
 abbrev pub node_stands : List (Option Node) → ℕ → Bool
 node_stands xs x = may_stand (x % 2 == 0) (slice_index_or xs x None)
 
@@ -43,6 +44,7 @@ node_stands xs x = may_stand (x % 2 == 0) (slice_index_or xs x None)
 abbrev pub TellsRule : Bool → Option ℕ → Type 0
 TellsRule holds found = MatchOption found (holds ≡ true) (λ _. holds ≡ false)
 
--- 25 and 26: no two of the nodes up to node x, of those that are sent, have one key of this kind
+-- `KeyRepeated` (25) and `ClientRepeated` (26): no two of the nodes up to node x, of those that are sent, have one key
+-- of this kind
 abbrev pub has_new_key : KeyKind → List (Option Node) → ℕ → Bool
 has_new_key kind xs x = is_distinct same_bytes (keys_of kind (take (x + 1) xs))

@@ -10,6 +10,7 @@ ghost use Rattle.mls_types.specs.GroupInfo.{ratchet_tree};
 ghost use Rattle.mls_cli_place.specs.Breach.{IsBreach, MemberBreach, leaf_below, rule_of};
 ghost use Rattle.mls_cli_place.specs.declared.tree_place.TreePlace.TheVariants as tree;
 
+use crate::parents::{ParentRule, first_wrong_parent};
 use crate::repeats::first_repeated;
 use crate::rules::{first_incapable, first_misplaced, first_unfit, first_unsigned};
 use crate::tree_place::TreePlace;
@@ -19,11 +20,15 @@ use mls_tree_index::KeyKind;
 use mls_types::RatchetTree;
 use std::alloc::{AllocError, Global};
 
-/// A rule that a node or a member alone breaks.
+/// A rule that a node or a member breaks.
 #[derive(Clone, Copy, Debug, PartialEq, Eq)]
 pub(crate) enum Rule {
     /// Leaves stand at even places, parents at odd ones.
     Places,
+    /// Each parent lists only leaves that it may list.
+    Lists,
+    /// Each parent is parent-hash valid.
+    Hashes,
     /// No two nodes have one encryption key.
     Keys,
     /// No two members have one signature key.
@@ -42,6 +47,8 @@ pub(crate) fn rule_of(number: u8) -> Option<Rule>
 {
     match number {
         20 => Some(Rule::Places),
+        23 => Some(Rule::Lists),
+        24 => Some(Rule::Hashes),
         25 => Some(Rule::Keys),
         26 => Some(Rule::Clients),
         51 => Some(Rule::Signatures),
@@ -57,6 +64,16 @@ fn at_node(found: Option<usize>) -> Option<TreePlace>
 {
     match found {
         Some(node) => Some(TreePlace::Node(node)),
+        None => None,
+    }
+}
+
+/// The place of a parent, by its node.
+fn at_parent(found: Option<u32>) -> Option<TreePlace>
+    ensures { result ≡ option_map tree.Node found }
+{
+    match found {
+        Some(node) => Some(TreePlace::Node(node as usize)),
         None => None,
     }
 }
@@ -147,6 +164,14 @@ pub(crate) fn breach_of_rule<S: Suite>(
     match rule {
         Rule::Places => Ok(at_node(first_misplaced(nodes.as_slice()))),
         Rule::KeyForms => Ok(at_node(first_unfit::<S>(nodes.as_slice()))),
+        Rule::Lists => {
+            let found = first_wrong_parent(alloc, ParentRule::Lists, nodes.as_slice())?;
+            Ok(at_parent(found))
+        }
+        Rule::Hashes => {
+            let found = first_wrong_parent(alloc, ParentRule::Hashes, nodes.as_slice())?;
+            Ok(at_parent(found))
+        }
         Rule::Keys => {
             let found = first_repeated(alloc, KeyKind::Encryption, nodes.as_slice())?;
             Ok(at_node(found))

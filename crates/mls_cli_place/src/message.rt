@@ -2,7 +2,7 @@
 
 ghost use Rattle.std.specs.Prelude.{◌≡◌, ◌≤◌, IfSome, Ok, length};
 ghost use Rattle.mls_wire.specs.Format.{IsBytes};
-ghost use Rattle.mls_leaf.specs.Faults.{whole};
+ghost use Rattle.mls_wire.specs.Whole.{whole};
 ghost use Rattle.mls_leaf.specs.Limits.{input_limit};
 ghost use Rattle.mls_types.specs.GroupInfo.{ratchet_tree};
 ghost use Rattle.mls_types.specs.Message.{mls_message};

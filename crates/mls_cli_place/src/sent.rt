@@ -3,7 +3,7 @@
 ghost use Rattle.std.specs.Prelude.{◌≡◌, ◌<◌, ◌^◌, Some, length, option_map, IfOk, IfSome};
 ghost use Rattle.std.specs.Option.{option_copied};
 ghost use Rattle.std.specs.Result.{result_ok};
-ghost use Rattle.mls_leaf.specs.Faults.{whole};
+ghost use Rattle.mls_wire.specs.Whole.{whole};
 ghost use Rattle.mls_leaf.specs.Limits.{input_limit};
 ghost use Rattle.mls_checks.specs.Short.{IsShort};
 ghost use Rattle.mls_types.specs.GroupInfo.{group_info, ratchet_tree};
@@ -112,9 +112,10 @@ fn breach_in_bytes<S: Suite>(
 }
 
 /// The first node or leaf of a ratchet tree's file that breaks the rule of a refusal's number, for the group with this
-/// id in hex digits: of 20 a node out of its place, of 25 a node with a key that another has before it, of 26 a leaf with
-/// a client that another has before it, of 51 and 52 a leaf, of 36 a node (RFC 9420, 7.3 and 12.4.3.3). None for other
-/// numbers, where the file has no such tree, and where nothing of it breaks the rule.
+/// id in hex digits: of 20 a node out of its place, of 23 and 24 a parent, of 25 a node with a key that another has before
+/// it, of 26 a leaf with a client that another has before it, of 51 and 52 a leaf, of 36 a node (RFC 9420, 7.3, 7.9.2 and
+/// 12.4.3). Parents below a parent come before it, its left side before its right; 24 is looked at where no parent breaks
+/// 23. None for other numbers, where the file has no such tree, and where nothing of it breaks the rule.
 pub fn breach_of_file<S: Suite>(
     alloc: Global,
     form: Form,

@@ -40,7 +40,7 @@ same_join : (c : Crypto) (w : World) (n : ℕ) (s t : Source) → source_view s 
 unfolding join_answer
 same_join c w n s t p =
     bind_same (entrant_at w n) _ _ (λ e. rw (same_bytes w s t p)
-    (bind_same (bytes_of w t) _ _ (λ bytes. bind_same (join_verdict c e.candidate bytes) _ _ (λ j. rw (same_made w.made s t e.candidate p) refl))))
+    (bind_same (bytes_of w t) _ _ (λ bytes. bind_same (join_verdict c e.candidate bytes) _ _ (λ j. rw (same_made w.commits s t e.candidate p) refl))))
 
 -- ---- all calls
 

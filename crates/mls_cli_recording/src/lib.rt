@@ -9,8 +9,6 @@ mod extensions;
 mod lookup;
 mod reading;
 mod sources;
-#[cfg(test)]
-mod tests;
 
 ghost use Rattle.mls_cli_recording.specs.CallLaws.{SameReplies, SameRun};
 

@@ -15,19 +15,19 @@ use Rattle.mls_cli_replay.specs.Message.{digits_text}
 use Rattle.mls_cli_replay.specs.Replay.{PrintsOne, actions_of}
 use Rattle.mls_cli_replay.specs.declared.member_tree.TreeDigits.{TreeDigits}
 
--- the spelling of a member's tree (RFC 9420, 12.4.3.3), or TooLong (6) where it has none
+-- the spelling of a member's tree (RFC 9420, 12.4.3.3), or `TooLong` (6) where it has none
 abbrev pub IsSpelling : Member → Page (List ℕ) → Type 0
 IsSpelling m page =
     (ratchet_tree.Fits (to_nodes m.public.tree)
     × (page ≡ good (ratchet_tree.spell (to_nodes m.public.tree) ∷ [])))
     ⊎ ((ratchet_tree.Fits (to_nodes m.public.tree) → ⊥) × (page ≡ refused 6))
 
--- Gone (40), or the tree's spelling
+-- `Gone` (40), or the tree's spelling
 abbrev pub IsTreeOf : Member → Page (List ℕ) → Type 0
 IsTreeOf m page =
     ((m.gone ≡ true) × (page ≡ refused 40)) ⊎ ((m.gone ≡ false) × IsSpelling m page)
 
--- the tree of the member that was looked for, or NoSuchMember (90)
+-- the tree of the member that was looked for, or `NoSuchMember` (90)
 abbrev pub IsTreeOn : Option Member → Page (List ℕ) → Type 0
 IsTreeOn None page = page ≡ refused 90
 IsTreeOn (Some m) page = IsTreeOf m page

@@ -19,7 +19,7 @@ use Rattle.mls_cli_replay.specs.declared.message.Digits.{Digits}
 abbrev pub digits_text : List ℕ → List ℕ
 digits_text message = encode_lower message ++ codes "\n"
 
--- a message, or NoSuchMessage (94)
+-- a message, or `NoSuchMessage` (94)
 abbrev pub page_on : Option (List ℕ) → Page (List ℕ)
 page_on (Some message) = good (message ∷ [])
 page_on None = refused 94

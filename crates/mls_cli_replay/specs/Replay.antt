@@ -112,7 +112,7 @@ abbrev pub member_entry : ℕ → Member → ReplayEntry
 member_entry k m =
     if m.gone then gone k
     else present k m.keys.leaf m.public.context.epoch m.public.context.tree_hash
-    (epoch_authenticator m.epoch)
+    (epoch_authenticator m.epoch_secret)
 
 -- from this number on
 unfoldable pub member_entries : ℕ → List Seat → List ReplayEntry

@@ -1,7 +1,7 @@
 -- The lines of messages, and the text that bytes show.
 use Rattle.std.specs.Prelude.{ℕ, List, [], ◌∷◌, codes, length, Result, Ok}
 use Rattle.mls_wire.specs.Reading.{◌>>=◌}
-use Rattle.mls_leaf.specs.Faults.{whole}
+use Rattle.mls_wire.specs.Whole.{whole}
 use Rattle.mls_leaf.specs.Limits.{input_limit}
 use Rattle.mls_types.specs.Message.{mls_message}
 use Rattle.mls_types.specs.declared.message.MlsMessage.{MlsMessage}

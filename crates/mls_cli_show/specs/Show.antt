@@ -7,7 +7,7 @@ use Rattle.mls_cli_text.specs.declared.form.Form.{Form}
 use Rattle.mls_cli_show.specs.declared.numbered.Detail.{Detail}
 use Rattle.mls_cli_show.specs.Message.{text_of}
 
--- a file without bytes, since it is no hex text, is refused with 8
+-- a file without bytes, since it is no hex text, is refused with `NotHex` (8)
 abbrev pub page_in : Detail → Option (List ℕ) → Page Entry
 page_in detail None = refused 8
 page_in detail (Some bytes) = page_on (text_of detail bytes)

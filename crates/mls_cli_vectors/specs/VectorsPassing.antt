@@ -2,9 +2,9 @@
 use Rattle.std.specs.Prelude.{◌==◌, ◌&&◌, ◌^◌, nat_le, nat_lt, ℕ, Bool, false, List, length, Option, Some, None, Result, Ok, Err}
 use Rattle.std.specs.Str.{bytes_eq}
 use Rattle.mls_wire.specs.Reading as wire
+use Rattle.mls_wire.specs.Whole.{whole}
 use Rattle.mls_kdf.specs.Kdf as kdf
 use Rattle.mls_treemath.specs.Steps.{ancestors_of, copath_of}
-use Rattle.mls_leaf.specs.Faults.{whole}
 use Rattle.mls_leaf.specs.Limits.{input_limit}
 use Rattle.mls_types.specs.Message.{mls_message}
 use Rattle.mls_types.specs.declared.message.MlsMessage.{MlsMessage}

@@ -1,7 +1,7 @@
 //! Which vectors pass.
 
 ghost use Rattle.std.specs.Prelude.{◌≡◌, map, option_map, IfOk};
-ghost use Rattle.mls_leaf.specs.Faults.{whole};
+ghost use Rattle.mls_wire.specs.Whole.{whole};
 ghost use Rattle.mls_leaf.specs.Limits.{input_limit};
 ghost use Rattle.mls_types.specs.Message.{mls_message};
 ghost use Rattle.mls_cli_vectors.specs.Vectors.{vector_view};

@@ -9,8 +9,8 @@ use Rattle.mls_leaf.specs.declared.leaf.LeafNode.{LeafNode}
 use Rattle.mls_types.specs.declared.update_path.UpdatePath.{UpdatePath}
 use Rattle.mls_types.specs.declared.update_path.UpdatePathNode.{UpdatePathNode}
 use Rattle.mls_suite.specs.Crypto.{Crypto}
-use Rattle.mls_checks.specs.Checks.{replaced_checks}
-use Rattle.mls_checks.specs.declared.checks.Source.TheVariants as leaf_node_source
+use Rattle.mls_checks.specs.Checks.{replacement_checks}
+use Rattle.mls_checks.specs.declared.checks.LeafUse.TheVariants as leaf_node_source
 use Rattle.mls_tree_model.specs.Term.{Term, leaf_of}
 use Rattle.mls_tree_model.specs.Way.{Step, filtered_way, path_length, target_count, ciphertext_counts}
 use Rattle.mls_tree_model.proofs.TakenLaws.{some_at}
@@ -81,23 +81,23 @@ then_counts true other rest = refl
 then_counts false other rest = refl
 
 -- after the checks of its leaf
-path_counted : (c : Crypto) (p : PublicState) (i : ℕ) (e : Edits) (path : UpdatePath) (old : LeafNode) → leaf_of p.tree i ≡ Some old → replaced_checks c path.leaf_node old leaf_node_source.Commit p.context.group_id i ≡ Ok passed →
+path_counted : (c : Crypto) (p : PublicState) (i : ℕ) (e : Edits) (path : UpdatePath) (old : LeafNode) → leaf_of p.tree i ≡ Some old → replacement_checks c path.leaf_node old leaf_node_source.Commit p.context.group_id i ≡ Ok passed →
     apply_update_path c p i e path ≡ (count_checks e i path >> (require 36 (list_all c.key_ok (path.leaf_node.encryption_key ∷ node_keys path)) >> merge_answer e.tree i path.leaf_node (node_keys path)))
 unfolding apply_update_path count_checks
 path_counted c p i e path old at fine = rw (at, fine) (then_counts (length path.nodes == path_length 0 e.tree i) (bytes_eq (cipher_counts path) (due_counts e i)) _)
 
-pub replaced_in : (c : Crypto) (new old : LeafNode) (ids group_id : List ℕ) (i : ℕ) → ids ≡ group_id → replaced_checks c new old leaf_node_source.Commit ids i ≡ Ok passed → replaced_checks c new old leaf_node_source.Commit group_id i ≡ Ok passed
-replaced_in c new old ids group_id i is h = ap (λ x. replaced_checks c new old leaf_node_source.Commit x i) (sym is) ∙ h
+pub replaced_in : (c : Crypto) (new old : LeafNode) (ids group_id : List ℕ) (i : ℕ) → ids ≡ group_id → replacement_checks c new old leaf_node_source.Commit ids i ≡ Ok passed → replacement_checks c new old leaf_node_source.Commit group_id i ≡ Ok passed
+replaced_in c new old ids group_id i is h = ap (λ x. replacement_checks c new old leaf_node_source.Commit x i) (sym is) ∙ h
 
-pub path_miscounted : (c : Crypto) (p : PublicState) (i : ℕ) (e : Edits) (path : UpdatePath) (old : LeafNode) → leaf_of p.tree i ≡ Some old → replaced_checks c path.leaf_node old leaf_node_source.Commit p.context.group_id i ≡ Ok passed →
+pub path_miscounted : (c : Crypto) (p : PublicState) (i : ℕ) (e : Edits) (path : UpdatePath) (old : LeafNode) → leaf_of p.tree i ≡ Some old → replacement_checks c path.leaf_node old leaf_node_source.Commit p.context.group_id i ≡ Ok passed →
     (n : ℕ) → count_checks e i path ≡ Err n → apply_update_path c p i e path ≡ Err n
 path_miscounted c p i e path old at fine n h = path_counted c p i e path old at fine ∙ rw h refl
 
-pub path_unfit : (c : Crypto) (p : PublicState) (i : ℕ) (e : Edits) (path : UpdatePath) (old : LeafNode) → leaf_of p.tree i ≡ Some old → replaced_checks c path.leaf_node old leaf_node_source.Commit p.context.group_id i ≡ Ok passed →
+pub path_unfit : (c : Crypto) (p : PublicState) (i : ℕ) (e : Edits) (path : UpdatePath) (old : LeafNode) → leaf_of p.tree i ≡ Some old → replacement_checks c path.leaf_node old leaf_node_source.Commit p.context.group_id i ≡ Ok passed →
     count_checks e i path ≡ Ok passed → list_all c.key_ok (path.leaf_node.encryption_key ∷ node_keys path) ≡ false → apply_update_path c p i e path ≡ Err 36
 path_unfit c p i e path old at fine h k = path_counted c p i e path old at fine ∙ rw (h, k) refl
 
-pub path_merged : (c : Crypto) (p : PublicState) (i : ℕ) (e : Edits) (path : UpdatePath) (old : LeafNode) → leaf_of p.tree i ≡ Some old → replaced_checks c path.leaf_node old leaf_node_source.Commit p.context.group_id i ≡ Ok passed →
+pub path_merged : (c : Crypto) (p : PublicState) (i : ℕ) (e : Edits) (path : UpdatePath) (old : LeafNode) → leaf_of p.tree i ≡ Some old → replacement_checks c path.leaf_node old leaf_node_source.Commit p.context.group_id i ≡ Ok passed →
     count_checks e i path ≡ Ok passed → list_all c.key_ok (path.leaf_node.encryption_key ∷ node_keys path) ≡ true → apply_update_path c p i e path ≡ merge_answer e.tree i path.leaf_node (node_keys path)
 path_merged c p i e path old at fine h k = path_counted c p i e path old at fine ∙ rw (h, k) refl
 

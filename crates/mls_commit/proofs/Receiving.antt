@@ -1,5 +1,5 @@
 -- A received commit's tree: the group's own with a path, or the edited one, with a path or without.
-use Rattle.std.proofs.Common.{◌≡◌, ℕ, ◌==◌, true, List, [], ◌∷◌, length, Option, None, Ok, refl, sym, ◌∙◌, ap, subst, arith, eqb-true}
+use Rattle.std.proofs.Common.{◌≡◌, ℕ, ◌==◌, Bool, true, false, ◌&&◌, List, [], ◌∷◌, length, Option, None, Ok, refl, sym, ◌∙◌, ap, subst, arith, eqb-true}
 use Rattle.mls_wire.specs.Laws.{ok_is}
 use Rattle.mls_leaf.specs.declared.extension.Extension.{Extension}
 use Rattle.mls_leaf.specs.declared.leaf.LeafNode.{LeafNode}
@@ -11,15 +11,25 @@ use Rattle.mls_tree.specs.Tree.{Tree, term}
 use Rattle.mls_tree_model.specs.Term.{Term}
 use Rattle.mls_model.specs.PublicState.{PublicState, Used}
 use Rattle.mls_model.specs.Proposals.{updates, removed_leaves, adds}
-use Rattle.mls_model.specs.Commit.{Edits, Change, apply_updates, apply_removes, apply_adds, apply_proposals, apply_path_if, public_with}
+use Rattle.mls_model.specs.Commit.{Edits, Change, apply_updates, apply_removes, apply_adds, apply_proposals, apply_path_if, public_with, change_of}
 use Rattle.mls_schedule.specs.Transcript.{interim_hash}
 use Rattle.mls_types.specs.declared.group_context.GroupContext.{GroupContext}
 use Rattle.mls_types.specs.declared.update_path.UpdatePath.{UpdatePath}
-use Rattle.mls_commit.specs.Change.{change_of}
 use Rattle.mls_public_group.specs.NextTree.{next_term, is_merged, IsPreparedFor}
 use Rattle.mls_public_group.specs.declared.next_tree.NextTree.{NextTree}
 use Rattle.mls_public_group.specs.declared.next_tree.NextTree.TheVariants.{Edited, EditedMerged, Merged}
 use Rattle.mls_theorems.proofs.Inversion.{edited_steps}
+
+-- ---- whose tree it is
+
+pub and_right : (a b : Bool) → (a && b) ≡ true → b ≡ true
+and_right true b e = e
+and_right false b e = absurd (let never : false ≡ true = e in cc never)
+
+pub own_tree : (merged path base none own : Bool) → merged ≡ (path && base) → base ≡ none → own ≡ merged → own ≡ (path && none)
+own_tree merged path base none own is of on = on ∙ is ∙ ap (λ b. path && b) of
+
+-- ---- trees alike
 
 pub next_alike : (s t : Term) (n : NextTree) → (is_merged n ≡ true → s ≡ t) → next_term s n ≡ next_term t n
 unfolding next_term

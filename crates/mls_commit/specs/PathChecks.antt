@@ -12,9 +12,12 @@ use Rattle.mls_model.specs.Commit.{Edits, cipher_counts, due_counts, node_keys}
 abbrev pub StaysMember : ℕ → Term → Term → Type 0
 StaysMember i old new = IsSome (leaf_of old i) → IsSome (leaf_of new i)
 
--- 30 how many nodes a path has, 31 how many ciphertexts each of them has (RFC 9420, 12.4.2)
+-- `PathLength` (30) how many nodes a path has, `CipherCount` (31) how many ciphertexts each of them has (RFC 9420,
+-- 12.4.2)
 unfoldable pub count_checks : Edits → ℕ → UpdatePath → Result Passed ℕ
-count_checks e committer path = require 30 (length path.nodes == path_length 0 e.tree committer) >> require 31 (bytes_eq (cipher_counts path) (due_counts e committer))
+count_checks e committer path =
+    require 30 (length path.nodes == path_length 0 e.tree committer)
+    >> require 31 (bytes_eq (cipher_counts path) (due_counts e committer))
 
 -- how many ciphertexts each of these nodes has
 abbrev pub counts_in : List UpdatePathNode → List ℕ

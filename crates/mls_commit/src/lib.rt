@@ -1,13 +1,11 @@
 //! What a commit makes of the public state of a group (RFC 9420, 12.4.2).
 #![tactic(auto)]
 
-mod change;
 mod commit;
 mod error;
+mod outcome;
 mod path;
-mod received;
 
-pub use change::Change;
 pub use commit::change_of_commit;
 pub use error::CommitError;
-pub use received::Received;
+pub use outcome::Outcome;

@@ -1,6 +1,6 @@
 //! The checks of a commit's path, and its merge.
 
-ghost use Rattle.std.specs.Prelude.{◌≡◌, ◌==◌, ◌^◌, true, length, IfOk, IsSome};
+ghost use Rattle.std.specs.Prelude.{◌≡◌, ◌==◌, ◌^◌, length, IfOk, IsSome};
 ghost use Rattle.std.specs.List.{list_all};
 ghost use Rattle.std.specs.Str.{bytes_eq};
 ghost use Rattle.mls_wire.specs.Checks.{Answers, passed};
@@ -12,12 +12,11 @@ ghost use Rattle.mls_tree.specs.Refusals.{RefusesOutright};
 ghost use Rattle.mls_tree_model.specs.Term.{leaf_of};
 ghost use Rattle.mls_commit.specs.Faults.{number_of};
 ghost use Rattle.mls_commit.specs.PathChecks.{StaysMember, count_checks, counts_in, public_keys};
-ghost use Rattle.mls_commit.specs.PathMerge.{AppliesPath, MergesPath};
+ghost use Rattle.mls_commit.specs.PathMerge.{is_own, AppliesPath, MergesPath};
 ghost use Rattle.mls_public_group.specs.ProposalChecks.{member_check};
-ghost use Rattle.mls_commit.specs.declared.path.PathBase.TheVariants.{GroupTree};
 
 use crate::error::CommitError;
-use mls_checks::{CheckError, Source, replaced};
+use mls_checks::{CheckError, LeafUse, check_replacement};
 use mls_leaf::{Bytes, LeafNode};
 use mls_public_group::{Edits, NextTree, PublicGroup, Used};
 use mls_suite::Suite;
@@ -35,9 +34,9 @@ pub(crate) enum PathBase {
 }
 
 impl PathBase {
-    /// That of a commit that uses these proposals.
+    /// That of a commit that uses these proposals: the group's own tree where there are none, and only there.
     pub(crate) fn of(used: &[Used<'_>]) -> PathBase
-        ensures { result ≡ GroupTree → (length used.now == 0) ≡ true }
+        ensures { is_own result ≡ (length used.now == 0) }
     {
         if used.is_empty() {
             return PathBase::GroupTree;
@@ -113,7 +112,7 @@ fn merge_into(
 ) -> Result<NextTree, TreeError>
     ensures answer { MergesPath edits.now.tree committer leaf keys.items result }
     ensures follows { IfOk result (IsPreparedFor edits.now.tree) }
-    ensures own { IfOk result (λ t. is_merged t ≡ true → base ≡ GroupTree) }
+    ensures own { IfOk result (λ t. is_merged t ≡ is_own base) }
 {
     let tree = edits.tree.as_tree();
     let path = tree.prepare_path(committer, leaf, keys)?;
@@ -141,18 +140,18 @@ pub(crate) fn apply_update_path<S: Suite>(
     requires path { IsBelow (2 ^ 28) leaf_node path.now.leaf_node }
     ensures answer { AppliesPath S.crypto group.now committer edits.now path.now result }
     ensures follows { IfOk result (IsPreparedFor edits.now.tree) }
-    ensures own { IfOk result (λ t. is_merged t ≡ true → base ≡ GroupTree) }
+    ensures own { IfOk result (λ t. is_merged t ≡ is_own base) }
     ensures outright { RefusesOutright number_of (member_check group.now.tree committer) result }
 {
     let Some(old) = group.tree().leaf(committer) else {
         return Err(CommitError::from(TreeError::NoSuchLeaf));
     };
     let group_id = group.context().group_id.as_slice();
-    replaced::<S>(
+    check_replacement::<S>(
         alloc,
         &path.leaf_node,
         old,
-        Source::Commit,
+        LeafUse::Commit,
         group_id,
         committer,
     )?;

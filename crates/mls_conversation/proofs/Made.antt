@@ -41,7 +41,7 @@ one_refusal m k f n g = let same = sym f ∙ g in cc
 -- ---- the conversation
 
 pub is_made : (m : Member) (h : ℕ) → m.gone ≡ false → height_of (width m.public.tree) ≡ Some h
-    → conversation_of m ≡ Ok (state_with m (first_tree (encryption_secret m.epoch) h))
+    → conversation_of m ≡ Ok (state_with m (first_tree (encryption_secret m.epoch_secret) h))
 unfolding conversation_of
 is_made m h active e = rw (active, e) refl
 
@@ -49,12 +49,12 @@ ok_state : Member → Tree → Result State ℕ
 ok_state m keys = Ok (state_with m keys)
 
 pub made_with : (m : Member) (secret : List ℕ) (leaves : ℕ) (keys : Tree) → m.gone ≡ false → leaves ≡ width m.public.tree
-    → secret ≡ encryption_secret m.epoch → IsFirstTree secret (height_of leaves) (Some keys) → conversation_of m ≡ Ok (state_with m keys)
+    → secret ≡ encryption_secret m.epoch_secret → IsFirstTree secret (height_of leaves) (Some keys) → conversation_of m ≡ Ok (state_with m keys)
 unfolding ok_state
 made_with m secret leaves keys active e same is =
     let x = first_of_some secret (height_of leaves) keys is in
     let f : height_of (width m.public.tree) ≡ Some x.0 = ap height_of (sym e) ∙ x.1 in
-    let t : first_tree (encryption_secret m.epoch) x.0 ≡ keys = ap (λ (z : List ℕ). first_tree z x.0) (sym same) ∙ sym x.2 in
+    let t : first_tree (encryption_secret m.epoch_secret) x.0 ≡ keys = ap (λ (z : List ℕ). first_tree z x.0) (sym same) ∙ sym x.2 in
     is_made m x.0 active f ∙ ap (ok_state m) t
 
 -- a state that is made of the member's parts is its conversation

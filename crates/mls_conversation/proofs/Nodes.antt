@@ -2,7 +2,7 @@
 use Rattle.std.proofs.Common.{◌≡◌, ℕ, zero, suc, ◌*◌, true, List, [], ◌∷◌, get_or, Option, Some, None, refl, sym, ap, ◌∙◌}
 use Rattle.mls_leaf.specs.declared.node.Node.{Node}
 use Rattle.mls_tree_model.specs.Term.{Term, is_perfect, leaf_of}
-use Rattle.mls_tree_model.specs.Arrays.{leaf_in, in_order, term_of, before, cut, to_nodes}
+use Rattle.mls_tree_model.specs.Arrays.{leaf_in, in_order, term_of, before, without_last_blanks, to_nodes}
 use Rattle.mls_tree_model.proofs.ArrayLaws.{length-in_order, size-perfect, term_of-in_order}
 use Rattle.mls_tree_array.proofs.Numbered.{leaf_of-term_of}
 use Rattle.mls_exchange.specs.State.{member_at}
@@ -15,10 +15,10 @@ before_get None cs (d ∷ ds) same (suc k) = same k
 before_get (Some n) cs ds same zero = refl
 before_get (Some n) cs ds same (suc k) = same k
 
-cut_get : (xs : List (Option Node)) (k : ℕ) → get_or (cut xs) k None ≡ get_or xs k None
-unfolding cut
+cut_get : (xs : List (Option Node)) (k : ℕ) → get_or (without_last_blanks xs) k None ≡ get_or xs k None
+unfolding without_last_blanks
 cut_get [] k = refl
-cut_get (c ∷ cs) k = before_get c cs (cut cs) (cut_get cs) k
+cut_get (c ∷ cs) k = before_get c cs (without_last_blanks cs) (cut_get cs) k
 
 pub member_is : (h : ℕ) (t : Term) (i : ℕ) → is_perfect h t ≡ true → member_at (to_nodes t) i ≡ leaf_of t i
 unfolding member_at to_nodes

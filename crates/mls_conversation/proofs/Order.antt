@@ -26,7 +26,7 @@ sender_held : (c : Crypto) (m n : Member) (shared : ConversationsShare c m n) (s
     → next_generation s.keys s.leaf ≡ Some g → holds shared.second.state.keys s.leaf g ≡ true
 sender_held c m n shared s g since next =
     let one = shared.of_one in
-    let x = later c (encryption_secret m.epoch) shared.first.state s since one.of in
+    let x = later c (encryption_secret m.epoch_secret) shared.first.state s since one.of in
     let same : s.keys.height ≡ shared.second.state.keys.height = x.share.height ∙ sym one.height in
     let inside : s.leaf < 2 ^ shared.second.state.keys.height = subst (λ (h : ℕ). s.leaf < 2 ^ h) same (next_inside s.keys s.leaf g next) in
     fresh_holds n shared.second.state s.leaf g shared.second.is inside
@@ -34,6 +34,6 @@ sender_held c m n shared s g since next =
 pub arrive_once : (c : Crypto) → Lawful c → (m n : Member) (shared : ConversationsShare c m n) → ArriveOnce c m n shared
 arrive_once c laws m n shared s after between d a padding seed bytes generation since e next spare near =
     let r = shared.second.state in
-    let x : IsSender c (encryption_secret m.epoch) s r shared.first.leaf = is_sender c m n shared s r since ([], refl) in
-    arrives_in_any_order c laws (encryption_secret m.epoch) s after r shared.first.leaf d a padding seed bytes generation between x.range x.both x.own e next
+    let x : IsSender c (encryption_secret m.epoch_secret) s r shared.first.leaf = is_sender c m n shared s r since ([], refl) in
+    arrives_in_any_order c laws (encryption_secret m.epoch_secret) s after r shared.first.leaf d a padding seed bytes generation between x.range x.both x.own e next
     (sender_held c m n shared s generation since next) spare near

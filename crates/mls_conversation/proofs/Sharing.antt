@@ -65,7 +65,7 @@ has_height c m good =
 
 -- what a member exchanges messages with at first, where its tree has this height
 unfoldable pub state_of : Member → ℕ → State
-state_of m h = state_with m (first_tree (encryption_secret m.epoch) h)
+state_of m h = state_with m (first_tree (encryption_secret m.epoch_secret) h)
 
 -- a leaf of the tree lies in it
 leaf_inside : (t : Term) (i : ℕ) (leaf : LeafNode) → leaf_of t i ≡ Some leaf → i < width t
@@ -93,8 +93,8 @@ has_conversation c m good active =
 
 -- ---- members that share an epoch
 
-state_shared : (m n : Member) (h k : ℕ) → m.public.tree ≡ n.public.tree → m.public.context ≡ n.public.context → m.epoch ≡ n.epoch → k ≡ h
-    → OfOneEpoch (encryption_secret m.epoch) (state_of m h) (state_of n k)
+state_shared : (m n : Member) (h k : ℕ) → m.public.tree ≡ n.public.tree → m.public.context ≡ n.public.context → m.epoch_secret ≡ n.epoch_secret → k ≡ h
+    → OfOneEpoch (encryption_secret m.epoch_secret) (state_of m h) (state_of n k)
 unfolding state_of state_with first_tree
 state_shared m n h k tree context epoch same = record {
   group_id = ap (λ (v : GroupContext). v.group_id) (sym context);
@@ -123,7 +123,7 @@ height_is m h = refl
 
 state_holds : (m : Member) (h leaf g : ℕ) → leaf < 2 ^ h → holds (state_of m h).keys leaf g ≡ true
 unfolding state_of state_with first_tree
-state_holds m h leaf g inside = (first_is_fresh (encryption_secret m.epoch) h).all leaf g inside
+state_holds m h leaf g inside = (first_is_fresh (encryption_secret m.epoch_secret) h).all leaf g inside
 
 pub fresh_holds : (m : Member) (s : State) (leaf g : ℕ) → conversation_of m ≡ Ok s → leaf < 2 ^ s.keys.height → holds s.keys leaf g ≡ true
 unfolding conversation_of state_of
@@ -149,9 +149,9 @@ pub record IsSender (c : Crypto) (secret : List ℕ) (s r : State) (leaf : LeafN
   pub own : IsOwnLeaf c s leaf
 
 pub is_sender : (c : Crypto) (m n : Member) (shared : ConversationsShare c m n) (s r : State) → IsLaterThan c shared.first.state s
-    → IsLaterThan c shared.second.state r → IsSender c (encryption_secret m.epoch) s r shared.first.leaf
+    → IsLaterThan c shared.second.state r → IsSender c (encryption_secret m.epoch_secret) s r shared.first.leaf
 is_sender c m n shared s r since since' =
-    let secret = encryption_secret m.epoch in
+    let secret = encryption_secret m.epoch_secret in
     let one = shared.of_one in
     let x = later c secret shared.first.state s since one.of in
     let y = later c secret shared.second.state r since' one.other_of in
@@ -183,5 +183,5 @@ pub arrives_at_members : (c : Crypto) → Lawful c → (m n : Member) (shared : 
     → next_generation s.keys s.leaf ≡ Some generation → CanOpen r s.leaf generation
     → Arrives c s r shared.first.leaf generation application_data authenticated_data bytes
 arrives_at_members c laws m n shared s after r d a padding seed bytes generation since since' e next can =
-    let x : IsSender c (encryption_secret m.epoch) s r shared.first.leaf = is_sender c m n shared s r since since' in
-    sealed_arrives c laws (encryption_secret m.epoch) s after r shared.first.leaf d a padding seed bytes generation x.range x.both x.own e next can
+    let x : IsSender c (encryption_secret m.epoch_secret) s r shared.first.leaf = is_sender c m n shared s r since since' in
+    sealed_arrives c laws (encryption_secret m.epoch_secret) s after r shared.first.leaf d a padding seed bytes generation x.range x.both x.own e next can

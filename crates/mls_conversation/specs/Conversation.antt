@@ -23,7 +23,7 @@ state_with m keys = record {
   group_id = m.public.context.group_id;
   epoch = m.public.context.epoch;
   context = group_context.spell m.public.context;
-  sender_data_secret = sender_data_secret m.epoch;
+  sender_data_secret = sender_data_secret m.epoch_secret;
   keys = keys;
   nodes = to_nodes m.public.tree;
   leaf = m.keys.leaf;
@@ -36,7 +36,7 @@ unfoldable pub conversation_of : Member → Result State ℕ
 conversation_of m = do
   require 40 (not m.gone)
   height ← require_some 20 (height_of (width m.public.tree))
-  Ok (state_with m (first_tree (encryption_secret m.epoch) height))
+  Ok (state_with m (first_tree (encryption_secret m.epoch_secret) height))
 
 -- a call makes the conversation of a member, or refuses with the number of the first check that fails
 abbrev pub MakesConversation : Member → Result State ConversationError → Type 0

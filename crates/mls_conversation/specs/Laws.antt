@@ -26,8 +26,9 @@ pub record HasConversation (c : Crypto) (m : Member) : Type 0 where
 pub record ConversationsShare (c : Crypto) (m n : Member) : Type 0 where
   pub first : HasConversation c m
   pub second : HasConversation c n
-  pub of_one : OfOneEpoch (encryption_secret m.epoch) first.state second.state
+  pub of_one : OfOneEpoch (encryption_secret m.epoch_secret) first.state second.state
 
+-- so it is of all members that share an epoch
 abbrev pub MembersShare : Crypto → Type 0
 MembersShare c = (m n : Member) → ShareEpoch c m n → ConversationsShare c m n
 

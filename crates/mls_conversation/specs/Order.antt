@@ -25,5 +25,6 @@ ArriveOnce c m n shared =
     → ArrivesOnce c s (after_calls c shared.second.state between) shared.first.leaf generation
     application_data authenticated_data bytes
 
+-- so it is of all members that share an epoch
 abbrev pub ArriveOnceAtMembers : Crypto → Type 0
 ArriveOnceAtMembers c = (m n : Member) (shared : ConversationsShare c m n) → ArriveOnce c m n shared

@@ -16,7 +16,7 @@ pub record AreTogether (w : World) (i j : ℕ) (s t : Seat) : Type 0 where
   pub first : IsActive w i s
   pub second : IsActive w j t
   pub journal : s.journal ≡ t.journal
-  pub homemade : IsHomemade w.made s.journal
+  pub homemade : IsHomemade w.commits s.journal
 
 -- two such members share an epoch, whatever events led to the world
 abbrev pub TogetherShare : Crypto → Type 0

@@ -4,7 +4,7 @@ use Rattle.std.specs.Prelude.{nat_lt}
 use Rattle.std.proofs.lemmas.Bool.{cases_eq}
 use Rattle.mls_wire.specs.Checks.{passed}
 use Rattle.mls_wire.specs.Laws.{chosen}
-use Rattle.mls_leaf.specs.Faults.{whole}
+use Rattle.mls_wire.specs.Whole.{whole}
 use Rattle.mls_leaf.specs.Limits.{input_limit}
 use Rattle.mls_leaf.specs.declared.leaf.LeafNode.{LeafNode}
 use Rattle.mls_suite.specs.Crypto.{Crypto, Lawful}

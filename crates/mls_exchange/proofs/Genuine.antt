@@ -8,7 +8,7 @@ use Rattle.mls_wire.specs.Checks.{Passed, passed}
 use Rattle.mls_wire.specs.CheckLaws.{required}
 use Rattle.mls_wire.specs.Laws.{bind_ok}
 use Rattle.mls_wire.proofs.CheckLaws.{then_ok, require_ok, given_ok}
-use Rattle.mls_leaf.specs.Faults.{whole}
+use Rattle.mls_wire.specs.Whole.{whole}
 use Rattle.mls_leaf.specs.Limits.{input_limit}
 use Rattle.mls_leaf.specs.declared.leaf.LeafNode.{LeafNode}
 use Rattle.mls_suite.specs.Crypto.{Crypto}

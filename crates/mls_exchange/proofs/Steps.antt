@@ -4,9 +4,10 @@ use Rattle.std.specs.Prelude.{codes, ◌==◌}
 use Rattle.std.specs.Str.{bytes_eq}
 use Rattle.mls_wire.specs.Checks.{passed}
 use Rattle.mls_wire.specs.declared.WireError.TheVariants as wire
+use Rattle.mls_wire.specs.Whole.{whole}
 use Rattle.mls_leaf.specs.declared.error.LeafError.{LeafError}
 use Rattle.mls_leaf.specs.declared.error.LeafError.TheVariants.{Wire, BadTag, UnsupportedCredential, UnsupportedProposal, NotRising, ExtensionNotAllowed}
-use Rattle.mls_leaf.specs.Faults.{Fails, number_of, whole}
+use Rattle.mls_leaf.specs.Faults.{Fails, number_of}
 use Rattle.mls_leaf.specs.Limits.{input_limit}
 use Rattle.mls_leaf.specs.declared.leaf.LeafNode.{LeafNode}
 use Rattle.mls_suite.specs.Crypto.{Crypto}

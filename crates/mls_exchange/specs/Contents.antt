@@ -16,12 +16,12 @@ application_content group_id epoch leaf authenticated_data application_data = re
   content = Application application_data;
 }
 
--- what is signed of a content (RFC 9420, 6.1), or 6 where no vector holds it
+-- what is signed of a content (RFC 9420, 6.1), or `TooLong` (6) where no vector holds it
 unfoldable pub signed_text : FramedContent → List ℕ → Result (List ℕ) ℕ
 signed_text said context =
     if nat_lt (length (private_content_tbs said context)) (2 ^ 30)
     then Ok (private_content_tbs said context) else Err 6
 
--- the bytes, or 6 where there are more than an input may have
+-- the bytes, or `TooLong` (6) where there are more than an input may have
 unfoldable pub within_limit : List ℕ → Result (List ℕ) ℕ
 within_limit bytes = if nat_lt input_limit (length bytes) then Err 6 else Ok bytes

@@ -48,15 +48,17 @@ OpensOnce c =
 
 -- ---- in whatever order
 
--- the leaf and the generation whose key a call uses, if it isn't refused
+-- the leaf and the generation under whose key a message was sealed, if that wasn't refused
 abbrev pub sealed_under : State → Result (List ℕ × State) ℕ → Option (ℕ × ℕ)
 sealed_under s (Ok x) = Some (s.leaf, next_of s.keys s.leaf)
 sealed_under s (Err n) = None
 
+-- the leaf and the generation under whose key a message opened, if that wasn't refused
 abbrev pub opened_under : Result (Opened × State) ℕ → Option (ℕ × ℕ)
 opened_under (Ok x) = Some (x.0.leaf_index, x.0.generation)
 opened_under (Err n) = None
 
+-- the leaf and the generation whose key a call uses, if it isn't refused
 abbrev pub key_of : Crypto → State → Call → Option (ℕ × ℕ)
 key_of c s (Seal application_data authenticated_data padding seed) =
     sealed_under s (seal_message c s application_data authenticated_data padding seed)
@@ -89,8 +91,8 @@ pub record ArrivesOnce (c : Crypto) (s r : State) (leaf : LeafNode) (generation 
   pub again : (later : List Call)
       → open_message c (after_calls c arrives.after later) bytes ≡ Err 116
 
--- what a member seals opens, once, at each state that shares its epoch and can derive the key, after whatever that opened
--- and sealed in between, in whatever order, as long as it spared the key and the key isn't too far ahead
+-- what a member seals opens, once, at each state that shares its epoch and can derive the key, after whatever that
+-- opened and sealed in between, in whatever order, as long as it spared the key and the key isn't too far ahead
 abbrev pub ArrivesInAnyOrder : Crypto → Type 0
 ArrivesInAnyOrder c =
     (encryption_secret : List ℕ) (s after r : State) (leaf : LeafNode)

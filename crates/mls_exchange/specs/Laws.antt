@@ -1,6 +1,6 @@
 -- The laws of exchanges: what is sealed arrives, what opens is genuine, and no key serves twice (RFC 9420, 6.3 and 9).
 use Rattle.std.specs.Prelude.{◌≡◌, ℕ, ◌+◌, ◌<◌, ◌≤◌, ◌^◌, true, false, List, [], ◌∷◌, codes, Some, Result, Ok, Err}
-use Rattle.mls_leaf.specs.Faults.{whole}
+use Rattle.mls_wire.specs.Whole.{whole}
 use Rattle.mls_leaf.specs.Limits.{input_limit}
 use Rattle.mls_leaf.specs.declared.leaf.LeafNode.{LeafNode}
 use Rattle.mls_suite.specs.Crypto.{Crypto}
@@ -111,6 +111,7 @@ pub record IsGenuine (c : Crypto) (s : State) (bytes : List ℕ) (o : Opened) : 
   pub verifies : verify_with_label c leaf.signature_key (codes "FramedContentTBS")
       (opened_text s o) signature ≡ true
 
+-- each message that opens is genuine
 abbrev pub OpenedIsGenuine : Crypto → Type 0
 OpenedIsGenuine c = (s after : State) (bytes : List ℕ) (o : Opened)
     → open_message c s bytes ≡ Ok (o, after) → IsGenuine c s bytes o
@@ -157,11 +158,12 @@ pub data Call : Type 0 where
   Seal : List ℕ → List ℕ → ℕ → List ℕ → Call
   Open : List ℕ → Call
 
--- the state that a call leaves, where a refusal changes nothing
+-- the state after an answer, where a refusal changes nothing
 abbrev pub kept_state : {A : Type 0} → State → Result (A × State) ℕ → State
 kept_state s (Ok x) = x.1
 kept_state s (Err n) = s
 
+-- the state that a call leaves
 abbrev pub after_call : Crypto → State → Call → State
 after_call c s (Seal application_data authenticated_data padding seed) =
     kept_state s (seal_message c s application_data authenticated_data padding seed)
@@ -178,6 +180,7 @@ pub record StaysInEpoch (encryption_secret : List ℕ) (s after : State) : Type 
   pub own_leaf : after.leaf ≡ s.leaf
   pub own_key : after.signing ≡ s.signing
 
+-- so it is of all calls
 abbrev pub CallsStayInEpoch : Crypto → Type 0
 CallsStayInEpoch c = (encryption_secret : List ℕ) (s : State) (calls : List Call)
     → IsTreeOf encryption_secret s.keys
@@ -197,6 +200,7 @@ pub record StaysGone (c : Crypto) (s : State) (leaf generation : ℕ) : Type 0 w
       → seal_message c s application_data authenticated_data padding seed ≡ Ok (bytes, after)
       → s.leaf ≡ leaf → next_generation s.keys s.leaf ≡ Some generation → ⊥
 
+-- so it is of each key that is gone
 abbrev pub GoneStaysGone : Crypto → Type 0
 GoneStaysGone c = (encryption_secret : List ℕ) (s : State) (calls : List Call) (leaf generation : ℕ)
     → IsTreeOf encryption_secret s.keys → IsGone s leaf generation

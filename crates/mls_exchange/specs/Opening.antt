@@ -3,7 +3,7 @@ use Rattle.std.specs.Prelude.{ℕ, ◌==◌, List, codes, Result, Ok}
 use Rattle.std.specs.Str.{bytes_eq}
 use Rattle.mls_wire.specs.Reading.{◌>>=◌}
 use Rattle.mls_wire.specs.Checks.{Passed, require, require_some, ◌>>◌}
-use Rattle.mls_leaf.specs.Faults.{whole}
+use Rattle.mls_wire.specs.Whole.{whole}
 use Rattle.mls_leaf.specs.Limits.{input_limit}
 use Rattle.mls_leaf.specs.declared.leaf.LeafNode.{LeafNode}
 use Rattle.mls_suite.specs.Crypto.{Crypto}
@@ -50,9 +50,11 @@ opened m sender leaf application_data = record {
   authenticated_data = m.authenticated_data;
 }
 
--- what a message that was read says, and the state once its key was used: another group or epoch (111, 112), sender
--- data that doesn't open (113), a sender without a leaf (114), a generation that is too far ahead (115) or whose key
--- was used (116), a content that doesn't open (117), and the checks of the content (RFC 9420, 6.3)
+-- what a message that was read says, and the state once its key was used: another group or epoch (`OtherGroup` (111),
+-- `OtherEpoch` (112)), sender data that doesn't open (`SenderDataUnreadable`, 113), a sender without a leaf
+-- (`SenderWithoutLeaf`, 114), a generation that is too far ahead (`GenerationTooFar`, 115) or whose key was used
+-- (`KeyUsed`, 116), a content that doesn't open (`ContentUnreadable`, 117), and the checks of the content (RFC 9420,
+-- 6.3)
 unfoldable pub open_read : Crypto → State → PrivateMessage → Result (Opened × State) ℕ
 open_read c s m = do
   place_checks s m

@@ -32,14 +32,14 @@ own_signature c s application_data authenticated_data = do
       (application_content s.group_id s.epoch s.leaf authenticated_data application_data) s.context
   Ok (sign_with_label c s.signing (codes "FramedContentTBS") text)
 
--- the PrivateMessageContent of signed data with so many bytes of padding, or 6 where it is longer than an input may be
--- (RFC 9420, 6.3.1)
+-- the PrivateMessageContent of signed data with so many bytes of padding, or `TooLong` (6) where it is longer than an
+-- input may be (RFC 9420, 6.3.1)
 unfoldable pub own_content : Crypto → State → List ℕ → List ℕ → ℕ → Result (List ℕ) ℕ
 own_content c s application_data authenticated_data padding = do
   signature ← own_signature c s application_data authenticated_data
   within_limit (private_content application_data signature padding)
 
--- the message of a content under a key, or 6 where it is longer than an input may be (RFC 9420, 6.3)
+-- the message of a content under a key, or `TooLong` (6) where it is longer than an input may be (RFC 9420, 6.3)
 unfoldable pub message_under : Crypto → State → MessageKey → SenderData → List ℕ → List ℕ →
     Result (List ℕ) ℕ
 message_under c s key sender authenticated_data content =

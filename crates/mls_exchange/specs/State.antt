@@ -5,6 +5,7 @@ use Rattle.mls_leaf.specs.declared.node.Node.{Node}
 use Rattle.mls_tree_model.specs.Arrays.{leaf_in}
 use Rattle.mls_secret_tree.specs.SecretTree.{Tree, Drafted, keep_draft}
 
+-- where messages belong, what their keys are derived from, the ratchet tree, and the own leaf
 pub record State : Type 0 where
   -- where its messages belong
   pub group_id : List ℕ

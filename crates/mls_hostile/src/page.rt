@@ -28,19 +28,8 @@ impl Page {
     }
 
     fn secrets(&mut self, epoch: &Epoch) -> Result<(), AllocError> {
-        let secrets = [
-            epoch.epoch_secret(),
-            epoch.sender_data_secret(),
-            epoch.encryption_secret(),
-            epoch.exporter_secret(),
-            epoch.external_secret(),
-            epoch.confirmation_key(),
-            epoch.membership_key(),
-            epoch.resumption_psk(),
-            epoch.epoch_authenticator(),
-            epoch.init_secret(),
-        ];
-        for secret in secrets {
+        let secrets = epoch.secrets();
+        for secret in &secrets {
             self.entry(secret)?;
         }
         Ok(())
@@ -71,7 +60,7 @@ impl Page {
 
     fn kept(&mut self, member: &Member<Glass>, references: &[Secret]) -> Result<(), AllocError> {
         for reference in references {
-            self.optional(member.kept(reference))?;
+            self.optional(member.kept_message(reference))?;
         }
         match member.pending_secret() {
             Some(secret) => self.entry(secret),

@@ -2,7 +2,8 @@
 use Rattle.std.proofs.Common.{◌≡◌, ℕ, ◌==◌, Bool, true, false, List, Option, Some, None, Result, Ok, Err, refl, ap, subst, ◌∙◌}
 use Rattle.mls_wire.specs.Checks.{require, ◌>>◌}
 use Rattle.mls_wire.specs.Reading.{◌>>=◌}
-use Rattle.mls_leaf.specs.Faults.{Spells, number_of, whole}
+use Rattle.mls_wire.specs.Whole.{whole}
+use Rattle.mls_leaf.specs.Faults.{Spells, number_of}
 use Rattle.mls_leaf.specs.Limits.{input_limit}
 use Rattle.mls_leaf.specs.declared.error.LeafError.{LeafError}
 use Rattle.mls_leaf.specs.declared.node.Node.{Node}
@@ -21,9 +22,8 @@ use Rattle.mls_tree_view.specs.declared.group_info.GroupInfoView.{GroupInfoView}
 use Rattle.mls_model.specs.Candidate.{Candidate}
 use Rattle.mls_model.specs.Join.{joined_tree, join_verdict, member_of}
 use Rattle.mls_model.specs.Messages.{are_bytes}
-use Rattle.mls_model.specs.OpenedWelcome.{Opened, opened_welcome, or_fault}
+use Rattle.mls_model.specs.OpenedWelcome.{Opened, opened_welcome, or_fault, open_group_info, plain_info}
 use Rattle.mls_join.specs.FewNodes.{tree_in}
-use Rattle.mls_join.specs.Stages.{open_group_info, plain_info}
 
 -- ---- what a view of a GroupInfo tells
 

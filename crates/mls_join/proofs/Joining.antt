@@ -11,10 +11,9 @@ use Rattle.mls_treekem_model.specs.Keys.{Keys, PrivateKeys, all_keys}
 use Rattle.mls_treekem_model.specs.Make.{Climb, climb_to}
 use Rattle.mls_model.specs.Candidate.{Candidate}
 use Rattle.mls_model.specs.OpenedWelcome.{Opened}
-use Rattle.mls_model.specs.Join.{joined_tree, signer_checks, place_of, joined_keys, member_of}
+use Rattle.mls_model.specs.Join.{joined_tree, signer_checks, place_of, joined_keys, member_of, enter_group}
 use Rattle.mls_model.specs.Member.{with_keys}
 use Rattle.mls_model.proofs.KeyLaws.{with_all_keys}
-use Rattle.mls_join.specs.Stages.{enter_group}
 
 abbrev keys_of : ℕ → List ℕ → Keys → PrivateKeys
 keys_of leaf own above = record { leaf = leaf; own = own; above = above }

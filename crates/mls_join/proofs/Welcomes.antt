@@ -6,7 +6,7 @@ use Rattle.std.proofs.lemmas.Bool.{eq-eqb}
 use Rattle.mls_wire.specs.Checks.{Passed, passed, require_some, require, ◌>>◌}
 use Rattle.mls_wire.specs.Reading.{◌>>=◌}
 use Rattle.mls_wire.specs.Format.{IsBytes}
-use Rattle.mls_leaf.specs.Faults.{whole}
+use Rattle.mls_wire.specs.Whole.{whole}
 use Rattle.mls_leaf.specs.Limits.{input_limit}
 use Rattle.mls_types.specs.Welcome.{welcome}
 use Rattle.mls_types.specs.declared.welcome.Welcome.{Welcome}
@@ -21,9 +21,9 @@ use Rattle.mls_view.specs.Shown.{Shows}
 use Rattle.mls_suite.specs.Crypto.{Crypto}
 use Rattle.mls_model.specs.Candidate.{Candidate}
 use Rattle.mls_model.specs.Messages.{decode_message, are_bytes}
-use Rattle.mls_model.specs.OpenedWelcome.{Opened, opened_welcome, welcome_in}
-use Rattle.mls_join.specs.Entrance.{outer_checks}
-use Rattle.mls_join.specs.Stages.{read_welcome, read_welcome_of_suite, open_for_candidate, open_group_info, IsShownIn}
+use Rattle.mls_model.specs.OpenedWelcome.{Opened, opened_welcome, welcome_in, open_for_candidate, open_group_info}
+use Rattle.mls_join.specs.Entrance.{welcome_outer_checks}
+use Rattle.mls_join.specs.Stages.{read_welcome, read_welcome_of_suite, IsShownIn}
 
 -- a fault of decoding
 pub fault_read : (bytes : List ℕ) (n : ℕ) → whole mls_message input_limit bytes ≡ Err n → read_welcome bytes ≡ Err n
@@ -69,16 +69,16 @@ outer_is : (r : Result MlsMessage ℕ) (f : Welcome → Result Passed ℕ) → (
 outer_is (Ok m) f = refl
 outer_is (Err n) f = refl
 
-outer_read : (number : ℕ) (bytes : List ℕ) → outer_checks number bytes ≡ (read_welcome bytes >>= λ w. require 71 (w.cipher_suite == number))
-unfolding outer_checks read_welcome
+outer_read : (number : ℕ) (bytes : List ℕ) → welcome_outer_checks number bytes ≡ (read_welcome bytes >>= λ w. require 71 (w.cipher_suite == number))
+unfolding welcome_outer_checks read_welcome
 outer_read number bytes = outer_is (decode_message bytes) (λ w. require 71 (w.cipher_suite == number))
 
 -- they fail with the fault of the Welcome
-pub outer_fault : (number : ℕ) (bytes : List ℕ) (n m : ℕ) → read_welcome bytes ≡ Err n → outer_checks number bytes ≡ Err m → n ≡ m
-outer_fault number bytes n m e h = let same : outer_checks number bytes ≡ Err n = outer_read number bytes ∙ rw e refl in cc
+pub outer_fault : (number : ℕ) (bytes : List ℕ) (n m : ℕ) → read_welcome bytes ≡ Err n → welcome_outer_checks number bytes ≡ Err m → n ≡ m
+outer_fault number bytes n m e h = let same : welcome_outer_checks number bytes ≡ Err n = outer_read number bytes ∙ rw e refl in cc
 
 -- where there is one, they ask for its suite
-pub outer_suits : (number : ℕ) (bytes : List ℕ) (w : Welcome) → read_welcome bytes ≡ Ok w → outer_checks number bytes ≡ require 71 (w.cipher_suite == number)
+pub outer_suits : (number : ℕ) (bytes : List ℕ) (w : Welcome) → read_welcome bytes ≡ Ok w → welcome_outer_checks number bytes ≡ require 71 (w.cipher_suite == number)
 outer_suits number bytes w e = outer_read number bytes ∙ rw e refl
 
 -- so has the Welcome of the suite
@@ -95,13 +95,13 @@ module _ (number : ℕ) (bytes : List ℕ) (view : WelcomeView) (shown : IsShown
   test_passes : (shown.value.cipher_suite == number) ≡ true
   test_passes = eq-eqb shown.value.cipher_suite number (sym shown.shows.cipher_suite ∙ same)
 
-  pub outer_suited : outer_checks number bytes ≡ Ok passed
+  pub outer_suited : welcome_outer_checks number bytes ≡ Ok passed
   outer_suited = outer_suits number bytes shown.value shown.is_read ∙ rw test_passes refl
 
   pub suited : read_welcome_of_suite number bytes ≡ Ok shown.value
   suited = suited_is number bytes shown.value shown.is_read ∙ rw test_passes refl
 
-  pub never_refused : (n : ℕ) → outer_checks number bytes ≡ Err n → ⊥
+  pub never_refused : (n : ℕ) → welcome_outer_checks number bytes ≡ Err n → ⊥
   never_refused n h = let ok = outer_suited in cc (ok, h)
 
 -- one of another suite
@@ -109,7 +109,7 @@ module _ (number : ℕ) (bytes : List ℕ) (view : WelcomeView) (shown : IsShown
   test_fails : (shown.value.cipher_suite == number) ≡ false
   test_fails = ap (λ k. k == number) (sym shown.shows.cipher_suite) ∙ other
 
-  pub outer_other : outer_checks number bytes ≡ Err 71
+  pub outer_other : welcome_outer_checks number bytes ≡ Err 71
   outer_other = outer_suits number bytes shown.value shown.is_read ∙ rw test_fails refl
 
   pub suited_other : read_welcome_of_suite number bytes ≡ Err 71

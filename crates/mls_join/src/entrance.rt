@@ -7,7 +7,7 @@ ghost use Rattle.mls_tree.specs.Refusals.{RefusesOutright};
 ghost use Rattle.mls_tree.specs.Tree.{term};
 ghost use Rattle.mls_public_group.specs.Short.{IsBelow, HasLeavesBelow};
 ghost use Rattle.mls_model.specs.Join.{member_of, join_verdict};
-ghost use Rattle.mls_join.specs.Entrance.{outer_checks, EntersGroup, Joins};
+ghost use Rattle.mls_join.specs.Entrance.{welcome_outer_checks, EntersGroup, Joins};
 ghost use Rattle.mls_join.specs.Faults.{number_of};
 ghost use Rattle.mls_join.specs.Parts.{opened_by};
 
@@ -38,7 +38,7 @@ pub struct Entrance {
 }
 
 /// The new member with these keys in this tree: `BadConfirmationTag` (65) the confirmation tag.
-#[tactic(auto, unfolding(crate::specs::Stages::enter_group))]
+#[tactic(auto, unfolding(mls_model::specs::Join::enter_group))]
 fn enter_group(
     alloc: Global,
     tree: PublicTree,
@@ -118,7 +118,8 @@ pub fn join<S: Suite>(
 ) -> Result<Entrance, JoinError>
     ensures answer { Joins candidate.now (join_verdict S.crypto candidate.now bytes.now) result }
     // Decoding, `NotWelcome` (70) and `WrongSuite` (71) of the Welcome come also when an allocation fails.
-    ensures outright { RefusesOutright number_of (outer_checks S.crypto.number bytes.now) result }
+    ensures outright { RefusesOutright number_of (welcome_outer_checks S.crypto.number bytes.now)
+        result }
 {
     candidate.is_short();
     let opened = opened_welcome::<S>(alloc, candidate, bytes)?;

@@ -2,20 +2,20 @@
 
 ghost use Rattle.std.specs.Prelude.{◌≡◌, ◌<◌, ◌^◌, length, true, Ok, IfOk, MatchResult};
 ghost use Rattle.std.specs.Option.{option_copied};
-ghost use Rattle.mls_leaf.specs.Faults.{whole};
+ghost use Rattle.mls_wire.specs.Whole.{whole};
 ghost use Rattle.mls_leaf.specs.KeyPackage.{key_package};
 ghost use Rattle.mls_leaf.specs.Limits.{input_limit};
 ghost use Rattle.mls_types.specs.GroupInfo.{group_info};
 ghost use Rattle.mls_tree.specs.Refusals.{RefusesOutright};
 ghost use Rattle.mls_public_group.specs.Short.{IsBelow};
 ghost use Rattle.mls_model.specs.Messages.{are_bytes};
-ghost use Rattle.mls_model.specs.OpenedWelcome.{or_fault, opened_welcome};
+ghost use Rattle.mls_model.specs.OpenedWelcome.{or_fault, opened_welcome, find_entry, plain_info, open_for_candidate};
 ghost use Rattle.mls_model.specs.Proposals.{package_reference};
-ghost use Rattle.mls_join.specs.Entrance.{outer_checks};
+ghost use Rattle.mls_join.specs.Entrance.{welcome_outer_checks};
 ghost use Rattle.mls_join.specs.Faults.{number_of, Gives, GivesBytes, IsMemory};
 ghost use Rattle.mls_join.specs.FewNodes.{HasFewNodes, RefusesTree};
-ghost use Rattle.mls_join.specs.Parts.{secrets_by, Opens};
-ghost use Rattle.mls_join.specs.Stages.{LendsWelcome, read_welcome_of_suite, entry_of, plain_info, open_group_info, open_for_candidate};
+ghost use Rattle.mls_join.specs.Parts.{Opens, OpensGroupInfo};
+ghost use Rattle.mls_join.specs.Stages.{LendsWelcome, read_welcome_of_suite};
 
 use crate::error::JoinError;
 use crate::few_nodes::refuse_long_tree;
@@ -56,7 +56,8 @@ fn welcome_view<'a>(bytes: &'a [u8]) -> Result<WelcomeView<'a>, JoinError>
 /// The Welcome of the suite that the bytes are: decoding, `NotWelcome` (70), `WrongSuite` (71).
 fn read_welcome_of_suite<S: Suite>(alloc: Global, bytes: &[u8]) -> Result<Welcome, JoinError>
     ensures answer { Gives (read_welcome_of_suite S.crypto.number bytes.now) result }
-    ensures outright { RefusesOutright number_of (outer_checks S.crypto.number bytes.now) result }
+    ensures outright { RefusesOutright number_of (welcome_outer_checks S.crypto.number bytes.now)
+        result }
     ensures short { IfOk result (λ w. length w.encrypted_group_info < 2 ^ 30) }
 {
     let view = welcome_view(bytes)?;
@@ -77,11 +78,11 @@ fn package_reference(alloc: Global, offered: &KeyPackage) -> Result<Secret, Join
 }
 
 /// The first entry for a reference.
-fn entry_of<'a>(
+fn find_entry<'a>(
     reference: &Secret,
     entries: &'a [EncryptedGroupSecrets],
 ) -> Option<&'a EncryptedGroupSecrets>
-    ensures { option_copied result ≡ entry_of reference.now entries.now }
+    ensures { option_copied result ≡ find_entry reference.now entries.now }
 {
     entries.iter().find(|entry| entry.new_member.as_slice() == reference.as_slice())
 }
@@ -118,13 +119,13 @@ fn plain_info<S: Suite>(alloc: Global, joiner: &Secret, sealed: &[u8]) -> Result
 
 /// What the secrets of an entry open: `GroupInfoUnreadable` (75), `WrongSuite` (71) the GroupInfo is of another suite;
 /// `TreeShape` (20) and `TreeFull` (21) where it has more nodes than a tree.
-#[tactic(auto, unfolding(crate::specs::Stages::open_group_info))]
+#[tactic(auto, unfolding(mls_model::specs::OpenedWelcome::open_group_info))]
 fn open_group_info<S: Suite>(
     alloc: Global,
     secrets: Secrets,
     sealed: &[u8],
 ) -> Result<Opened, JoinError>
-    ensures answer { Opens S.crypto (open_group_info S.crypto (secrets_by secrets) sealed.now) result }
+    ensures answer { OpensGroupInfo S.crypto secrets sealed.now result }
     ensures below { IfOk result (λ o. IsBelow (2 ^ 27) group_info o.info) }
 {
     let bytes = plain_info::<S>(alloc, &secrets.joiner, sealed)?;
@@ -142,7 +143,7 @@ fn open_group_info<S: Suite>(
 
 /// What a Welcome of the suite gives to a candidate: 72 to 75, `WrongSuite` (71) the GroupInfo is of another suite,
 /// `TreeShape` (20) and `TreeFull` (21) where it has more nodes than a tree.
-#[tactic(auto, unfolding(crate::specs::Stages::open_for_candidate))]
+#[tactic(auto, unfolding(mls_model::specs::OpenedWelcome::open_for_candidate))]
 fn open_for_candidate<S: Suite>(
     alloc: Global,
     candidate: &Candidate<S>,
@@ -154,7 +155,7 @@ fn open_for_candidate<S: Suite>(
     ensures below { IfOk result (λ o. IsBelow (2 ^ 27) group_info o.info) }
 {
     let reference = package_reference(alloc, candidate.key_package())?;
-    let Some(entry) = entry_of(&reference, welcome.secrets.as_slice()) else {
+    let Some(entry) = find_entry(&reference, welcome.secrets.as_slice()) else {
         return Err(JoinError::NotForMe);
     };
     let secrets = opened_secrets::<S>(alloc, candidate, welcome, entry)?;
@@ -173,7 +174,8 @@ pub(crate) fn opened_welcome<S: Suite>(
 ) -> Result<Opened, JoinError>
     requires offered { IsBelow (2 ^ 27) key_package candidate.now.offered }
     ensures answer { Opens S.crypto (opened_welcome S.crypto candidate.now bytes.now) result }
-    ensures outright { RefusesOutright number_of (outer_checks S.crypto.number bytes.now) result }
+    ensures outright { RefusesOutright number_of (welcome_outer_checks S.crypto.number bytes.now)
+        result }
     ensures below { IfOk result (λ o. IsBelow (2 ^ 27) group_info o.info) }
 {
     let welcome = read_welcome_of_suite::<S>(alloc, bytes)?;

@@ -2,13 +2,13 @@
 
 ghost use Rattle.std.specs.Prelude.{◌<◌, ◌^◌, length};
 ghost use Rattle.mls_wire.specs.Checks.{AnswersOutright};
-ghost use Rattle.mls_leaf.specs.Faults.{whole};
+ghost use Rattle.mls_wire.specs.Whole.{whole};
 ghost use Rattle.mls_leaf.specs.Limits.{input_limit};
 ghost use Rattle.mls_types.specs.Welcome.{group_secrets};
-ghost use Rattle.mls_model.specs.OpenedWelcome.{or_fault, opened_secrets};
+ghost use Rattle.mls_model.specs.OpenedWelcome.{or_fault, opened_secrets, check_secret_lengths, decrypt_group_secrets};
 ghost use Rattle.mls_join.specs.Faults.{number_of, Gives, GivesBytes};
 ghost use Rattle.mls_join.specs.Parts.{secrets_by, OpensSecrets};
-ghost use Rattle.mls_join.specs.Stages.{secret_of_32, optional_secret_of_32, check_secret_lengths, decrypt_group_secrets};
+ghost use Rattle.mls_join.specs.Stages.{secret_of_32, optional_secret_of_32};
 
 use crate::error::JoinError;
 use mls_candidate::Candidate;
@@ -51,7 +51,7 @@ fn path_secret_of(bytes: &Option<Bytes>) -> Result<Option<Secret>, JoinError>
 }
 
 /// The secrets, each of 32 bytes: `SecretsUnreadable` (73).
-#[tactic(auto, unfolding(crate::specs::Stages::check_secret_lengths))]
+#[tactic(auto, unfolding(mls_model::specs::OpenedWelcome::check_secret_lengths))]
 fn check_secret_lengths(secrets: GroupSecrets) -> Result<Secrets, JoinError>
     ensures { AnswersOutright secrets_by number_of (check_secret_lengths secrets) result }
 {
@@ -103,7 +103,7 @@ fn decrypt_group_secrets<S: Suite>(
 
 /// What is sealed in a candidate's entry: `SecretsUnreadable` (73) where it doesn't open, is no GroupSecrets, or has a
 /// secret that isn't 32 bytes.
-#[tactic(auto, unfolding(mls_model::specs::OpenedWelcome::opened_secrets, crate::specs::Stages::check_secret_lengths))]
+#[tactic(auto, unfolding(mls_model::specs::OpenedWelcome::opened_secrets, mls_model::specs::OpenedWelcome::check_secret_lengths))]
 pub(crate) fn opened_secrets<S: Suite>(
     alloc: Global,
     candidate: &Candidate<S>,

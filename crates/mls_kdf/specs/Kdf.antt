@@ -1,5 +1,5 @@
--- HMAC (RFC 2104), HKDF (RFC 5869) and the labelled functions of RFC 9420 (5.2 and 8) over SHA-256,
--- as functions on lists of bytes.
+-- HMAC (RFC 2104), HKDF (RFC 5869) and the labelled functions of RFC 9420 (5.1.2, 5.2 and 8) over SHA-256, as functions
+-- on lists of bytes.
 use Rattle.std.specs.Prelude.{ℕ, zero, suc, ◌-◌, List, [], ◌∷◌, ◌++◌, length, take, map, replicate, bit_xor, nat_lt, codes, if◌then◌else◌}
 use Rattle.std.specs.Int.{w16, to_be_bytes, div_ceil}
 use Rattle.std.specs.List.{flat_map}

@@ -3,8 +3,8 @@ use Rattle.std.proofs.Common.{◌≡◌, ℕ, Bool, true, false, cond, eqb, List
 use Rattle.std.proofs.lemmas.Bool.{ne_eqb}
 use Rattle.mls_wire.specs.Reading.{◌>>=◌}
 use Rattle.mls_wire.specs.Format.{Format}
-use Rattle.mls_wire.specs.CombineLaws.{seen_read}
 use Rattle.mls_wire.specs.Combine.{Cases, case_body, left_format, right_format, make_right}
+use Rattle.mls_wire.specs.CombineReads.{seen_read}
 
 read_by : {A B : Type 0} (b : Bool) (a : Format A) (r : Format B) (bytes : List ℕ) (fault : ℕ) → b ≡ false → r.read bytes ≡ Err fault → (cond b (left_format a) (right_format r)).read bytes ≡ Err fault
 read_by true a r bytes fault is e = absurd cc

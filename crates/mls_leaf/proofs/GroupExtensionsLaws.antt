@@ -6,9 +6,10 @@ use Rattle.std.proofs.lemmas.Bool.{and_parts, ltb-true, leb-true}
 use Rattle.std.proofs.lemmas.List.{length-append}
 use Rattle.mls_wire.specs.Reading.{◌>>=◌, header}
 use Rattle.mls_wire.specs.Laws.{bind_ok, ok_is, guard_is}
-use Rattle.mls_wire.specs.CombineLaws.{next_read, seen_read, tested, chosen_by}
+use Rattle.mls_wire.specs.CombineLaws.{chosen_by}
 use Rattle.mls_wire.specs.Combine.{vector, uint16, byte_string}
-use Rattle.mls_wire.specs.Stateful.{run_at, run_spelling, RunFits}
+use Rattle.mls_wire.specs.CombineReads.{next_read, seen_read, if_passes}
+use Rattle.mls_wire.specs.StatefulReads.{run_at, run_spelling, RunFits}
 use Rattle.mls_leaf.specs.declared.error.LeafError.{LeafError}
 use Rattle.mls_leaf.specs.declared.extension.Extension.{Extension}
 use Rattle.mls_leaf.specs.Faults.{AddsSpelling}
@@ -64,7 +65,7 @@ where_read allowed bytes mid rest content kind first second =
 
 pub type_passes : (allowed : ℕ → Bool) (bytes rest : List ℕ) (kind : ℕ) → (type_where allowed).read bytes ≡ Ok (kind, rest) → allowed kind ≡ true
 type_passes allowed bytes rest kind e =
-    let number = bind_ok (uint16.read bytes) (tested allowed 14) (kind, rest) e in
+    let number = bind_ok (uint16.read bytes) (if_passes allowed 14) (kind, rest) e in
     let test = guard_is (allowed number.0.0) 14 number.0 (kind, rest) number.2 in
     subst (λ (k : ℕ). allowed k ≡ true) (ap (λ (x : ℕ × List ℕ). x.0) test.1) test.0
 
@@ -81,7 +82,7 @@ where_passes allowed bytes rest v e =
 pub types_alike : (one other : ℕ → Bool) → ((k : ℕ) → one k ≡ other k) → (bytes : List ℕ) → (type_where one).read bytes ≡ (type_where other).read bytes
 types_alike one other same bytes = alike (uint16.read bytes)
   where
-    alike : (r : Result (ℕ × List ℕ) ℕ) → (r >>= tested one 14) ≡ (r >>= tested other 14)
+    alike : (r : Result (ℕ × List ℕ) ℕ) → (r >>= if_passes one 14) ≡ (r >>= if_passes other 14)
     alike (Ok x) = ap (λ (b : Bool). chosen_by b 14 x) (same x.0)
     alike (Err e) = refl
 

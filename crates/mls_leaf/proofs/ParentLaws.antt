@@ -6,15 +6,17 @@ use Rattle.std.proofs.lemmas.Bool.{cases_order, and_parts, lt-ltb, le-ltb, le-le
 use Rattle.std.proofs.lemmas.List.{at_drop_more, at_drop_all, take_more, take-append-drop}
 use Rattle.mls_wire.specs.Reading.{◌>>=◌}
 use Rattle.mls_wire.specs.Laws.{bind_ok, ok_is}
-use Rattle.mls_wire.specs.CombineLaws.{tested, chosen_by}
+use Rattle.mls_wire.specs.CombineLaws.{chosen_by}
 use Rattle.mls_wire.specs.Combine.{vector, uint32}
-use Rattle.mls_wire.specs.Stateful.{run_at, run_spelling, RunFits, vector_from}
+use Rattle.mls_wire.specs.Stateful.{vector_from}
+use Rattle.mls_wire.specs.CombineReads.{if_passes}
+use Rattle.mls_wire.specs.StatefulReads.{run_at, run_spelling, RunFits}
 use Rattle.mls_leaf.specs.declared.error.LeafError.{LeafError}
 use Rattle.mls_leaf.specs.Faults.{AddsSpelling}
 use Rattle.mls_leaf.proofs.Codecs.{Refuses-whole}
 use Rattle.mls_leaf.specs.Nonempty.{uint32_nonempty}
 use Rattle.mls_leaf.specs.Parent.{rises_from, rising_with}
-use Rattle.mls_leaf.specs.ParentNode.{rising}
+use Rattle.mls_leaf.specs.ParentNode.{rising_rule}
 
 -- ---- an entry at a time
 
@@ -34,12 +36,12 @@ rises_from-stops low x xs lt = rises_from-cons low x xs ∙ ap (λ (b : Bool). b
 
 -- ---- what is read rises
 
-pub run_rises : (fuel low : ℕ) (bytes vs : List ℕ) → run_at rising fuel low bytes ≡ Ok vs → rises_from low vs ≡ true
+pub run_rises : (fuel low : ℕ) (bytes vs : List ℕ) → run_at rising_rule fuel low bytes ≡ Ok vs → rises_from low vs ≡ true
 run_rises fuel low [] vs e = subst (λ (l : List ℕ). rises_from low l ≡ true) (ok_is [] vs e) (rises_from-nil low)
 run_rises zero low (b ∷ bytes) vs e = absurd cc
 run_rises (suc fuel) low (b ∷ bytes) vs e =
-    let a = bind_ok ((rising.item low).read (b ∷ bytes)) (λ first. run_at rising fuel (rising.next low first.0) first.1 >>= λ others. Ok (first.0 ∷ others)) vs e in
-    let t = bind_ok (run_at rising fuel (rising.next low a.0.0) a.0.1) (λ others. Ok (a.0.0 ∷ others)) vs a.2 in
+    let a = bind_ok ((rising_rule.item low).read (b ∷ bytes)) (λ first. run_at rising_rule fuel (rising_rule.next low first.0) first.1 >>= λ others. Ok (first.0 ∷ others)) vs e in
+    let t = bind_ok (run_at rising_rule fuel (rising_rule.next low a.0.0) a.0.1) (λ others. Ok (a.0.0 ∷ others)) vs a.2 in
     let passed = passes_test uint32.read low (b ∷ bytes) a.0.0 a.0.1 a.1 in
     subst (λ (l : List ℕ). rises_from low l ≡ true) (ok_is (a.0.0 ∷ t.0) vs t.2) (rises_from-more low a.0.0 t.0 passed ∙ run_rises fuel (a.0.0 + 1) a.0.1 t.0 t.1)
   where
@@ -47,31 +49,31 @@ run_rises (suc fuel) low (b ∷ bytes) vs e =
     tested_is low x y true is e = subst (λ (z : ℕ × List ℕ). low ≤ z.0) (ok_is x y e) (leb-true low x.0 (sym is))
     tested_is low x y false is e = absurd cc
 
-    passes_test : (read : List ℕ → Result (ℕ × List ℕ) ℕ) (low : ℕ) (bytes : List ℕ) (v : ℕ) (rest : List ℕ) → (read bytes >>= tested (nat_le low) 13) ≡ Ok (v, rest) → low ≤ v
+    passes_test : (read : List ℕ → Result (ℕ × List ℕ) ℕ) (low : ℕ) (bytes : List ℕ) (v : ℕ) (rest : List ℕ) → (read bytes >>= if_passes (nat_le low) 13) ≡ Ok (v, rest) → low ≤ v
     passes_test read low bytes v rest e =
-        let a = bind_ok (read bytes) (tested (nat_le low) 13) (v, rest) e in
+        let a = bind_ok (read bytes) (if_passes (nat_le low) 13) (v, rest) e in
         tested_is low a.0 (v, rest) (nat_le low a.0.0) refl a.2
 
 -- ---- rising entries are spelled as others are
 
-pub run_spelling-rising : (low : ℕ) (xs : List ℕ) → run_spelling rising low xs ≡ flat_map uint32.spell xs
+pub run_spelling-rising : (low : ℕ) (xs : List ℕ) → run_spelling rising_rule low xs ≡ flat_map uint32.spell xs
 run_spelling-rising low [] = refl
 run_spelling-rising low (x ∷ xs) = ap (λ (l : List ℕ). uint32.spell x ++ l) (run_spelling-rising (x + 1) xs)
 
-pub RunFits-rising : (low : ℕ) (xs : List ℕ) → rises_from low xs ≡ true → AllByRecursion uint32.Fits xs → RunFits rising low xs
+pub RunFits-rising : (low : ℕ) (xs : List ℕ) → rises_from low xs ≡ true → AllByRecursion uint32.Fits xs → RunFits rising_rule low xs
 RunFits-rising low [] rise fits = tt
 RunFits-rising low (x ∷ xs) rise fits =
     let both = and_parts (nat_le low x) (rises_from (x + 1) xs) (sym (rises_from-cons low x xs) ∙ rise) in
     ((fits.0, both.0), RunFits-rising (x + 1) xs both.1 fits.1)
 
-pub RunFits-entries : (low : ℕ) (xs : List ℕ) → RunFits rising low xs → AllByRecursion uint32.Fits xs
+pub RunFits-entries : (low : ℕ) (xs : List ℕ) → RunFits rising_rule low xs → AllByRecursion uint32.Fits xs
 RunFits-entries low [] fits = tt
 RunFits-entries low (x ∷ xs) fits = (fits.0.0, RunFits-entries (x + 1) xs fits.1)
 
-pub rising_added : (xs old new : List ℕ) (r : Result (Unit {0}) LeafError) → rises_from 0 xs ≡ true → AddsSpelling (vector uint32 uint32_nonempty) xs old r new → AddsSpelling (vector_from rising 0) xs old r new
+pub rising_added : (xs old new : List ℕ) (r : Result (Unit {0}) LeafError) → rises_from 0 xs ≡ true → AddsSpelling (vector uint32 uint32_nonempty) xs old r new → AddsSpelling (vector_from rising_rule 0) xs old r new
 rising_added xs old new (Ok _) rise h = rw (run_spelling-rising 0 xs) ((RunFits-rising 0 xs rise h.0.0, h.0.1), h.1)
 rising_added xs old new (Err e) rise h =
-    Refuses-whole ((vector uint32 uint32_nonempty).Fits xs) ((vector_from rising 0).Fits xs) e
+    Refuses-whole ((vector uint32 uint32_nonempty).Fits xs) ((vector_from rising_rule 0).Fits xs) e
     (λ fits. (RunFits-entries 0 xs fits.0, subst (λ (l : List ℕ). length l < 2 ^ 30) (run_spelling-rising 0 xs) fits.1)) h
 
 -- ---- a number put in

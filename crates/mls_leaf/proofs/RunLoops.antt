@@ -3,8 +3,9 @@ use Rattle.std.proofs.Common.{◌≡◌, ℕ, zero, suc, ◌<◌, ◌≤◌, Lis
 use Rattle.std.proofs.lemmas.List.{append-nil, length-append}
 use Rattle.mls_wire.specs.Reading.{◌>>=◌}
 use Rattle.mls_wire.specs.Format.{Format, IsBytes}
-use Rattle.mls_wire.specs.CombineLaws.{IsNonempty, forgotten, forgotten_step}
-use Rattle.mls_wire.specs.Stateful.{Rule, run_at}
+use Rattle.mls_wire.specs.CombineLaws.{forgotten_step}
+use Rattle.mls_wire.specs.CombineReads.{IsNonempty, without_value}
+use Rattle.mls_wire.specs.StatefulReads.{Rule, run_at}
 
 -- what was read before, and what is still read
 abbrev pub with_front : {V : Type 0} → List V → Result (List V) ℕ → Result (List V) ℕ
@@ -71,27 +72,27 @@ is_done_from {S} {V} rule total front s bytes nil b =
 pub record PastFrom {S V : Type 0} (rule : Rule S V) (total : Result (Unit {0}) ℕ) (s : S) (bytes : List ℕ) : Type 0 where
   pub fuel : ℕ
   pub enough : length bytes ≤ fuel
-  pub so_far : forgotten (run_at rule fuel s bytes) ≡ total
+  pub so_far : without_value (run_at rule fuel s bytes) ≡ total
 
-pub past_begins_from : {S V : Type 0} (rule : Rule S V) (s : S) (bytes : List ℕ) → PastFrom rule (forgotten (run_at rule (length bytes) s bytes)) s bytes
+pub past_begins_from : {S V : Type 0} (rule : Rule S V) (s : S) (bytes : List ℕ) → PastFrom rule (without_value (run_at rule (length bytes) s bytes)) s bytes
 past_begins_from rule s bytes = record { fuel = length bytes; enough = omega arith; so_far = refl }
 
 past_step_from : {S V : Type 0} (rule : Rule S V) (total : Result (Unit {0}) ℕ) (s : S) (fuel : ℕ) (bytes rest : List ℕ) (v : V) → length rest < length bytes → length bytes ≤ fuel → (rule.item s).read bytes ≡ Ok (v, rest)
-    → forgotten (run_at rule fuel s bytes) ≡ total → PastFrom rule total (rule.next s v) rest
+    → without_value (run_at rule fuel s bytes) ≡ total → PastFrom rule total (rule.next s v) rest
 past_step_from rule total s fuel [] rest v lt enough e so_far = absurd (omega arith)
 past_step_from rule total s zero (b ∷ bytes) rest v lt enough e so_far = absurd (omega arith)
 past_step_from rule total s (suc fuel) (b ∷ bytes) rest v lt enough e so_far =
-    let one : forgotten (run_at rule (suc fuel) s (b ∷ bytes)) ≡ forgotten (run_at rule fuel (rule.next s v) rest) = rw e (sym (forgotten_step v (run_at rule fuel (rule.next s v) rest))) in
+    let one : without_value (run_at rule (suc fuel) s (b ∷ bytes)) ≡ without_value (run_at rule fuel (rule.next s v) rest) = rw e (sym (forgotten_step v (run_at rule fuel (rule.next s v) rest))) in
     record { fuel = fuel; enough = omega arith; so_far = sym one ∙ so_far }
 
 pub past_goes_on_from : {S V : Type 0} (rule : Rule S V) (total : Result (Unit {0}) ℕ) (s : S) (bytes rest : List ℕ) (v : V) → IsBytes bytes → (rule.item s).read bytes ≡ Ok (v, rest) → PastFrom rule total s bytes → PastFrom rule total (rule.next s v) rest
 past_goes_on_from rule total s bytes rest v fits e before = past_step_from rule total s before.fuel bytes rest v (is_shorter (rule.item s) (rule.nonempty s) bytes rest v fits e) before.enough e before.so_far
 
-past_stops_from : {S V : Type 0} (rule : Rule S V) (total : Result (Unit {0}) ℕ) (s : S) (fuel : ℕ) (bytes : List ℕ) (f : ℕ) → 0 < length bytes → length bytes ≤ fuel → (rule.item s).read bytes ≡ Err f → forgotten (run_at rule fuel s bytes) ≡ total → total ≡ Err f
+past_stops_from : {S V : Type 0} (rule : Rule S V) (total : Result (Unit {0}) ℕ) (s : S) (fuel : ℕ) (bytes : List ℕ) (f : ℕ) → 0 < length bytes → length bytes ≤ fuel → (rule.item s).read bytes ≡ Err f → without_value (run_at rule fuel s bytes) ≡ total → total ≡ Err f
 past_stops_from rule total s fuel [] f some enough e so_far = absurd (omega arith)
 past_stops_from rule total s zero (b ∷ bytes) f some enough e so_far = absurd (omega arith)
 past_stops_from rule total s (suc fuel) (b ∷ bytes) f some enough e so_far =
-    let one : forgotten (run_at rule (suc fuel) s (b ∷ bytes)) ≡ Err f = rw e refl in
+    let one : without_value (run_at rule (suc fuel) s (b ∷ bytes)) ≡ Err f = rw e refl in
     sym so_far ∙ one
 
 pub past_ends_from : {S V : Type 0} (rule : Rule S V) (total : Result (Unit {0}) ℕ) (s : S) (bytes : List ℕ) (f : ℕ) → 0 < length bytes → (rule.item s).read bytes ≡ Err f → PastFrom rule total s bytes → total ≡ Err f
@@ -99,5 +100,5 @@ past_ends_from rule total s bytes f some e b = past_stops_from rule total s b.fu
 
 pub past_is_done_from : {S V : Type 0} (rule : Rule S V) (total : Result (Unit {0}) ℕ) (s : S) (bytes : List ℕ) → bytes ≡ [] → PastFrom rule total s bytes → total ≡ Ok tt
 past_is_done_from rule total s bytes nil b =
-    let one : forgotten (run_at rule b.fuel s bytes) ≡ Ok tt = rw nil refl in
+    let one : without_value (run_at rule b.fuel s bytes) ≡ Ok tt = rw nil refl in
     sym b.so_far ∙ one

@@ -4,9 +4,9 @@ use Rattle.std.proofs.lemmas.Bool.{and_parts, cases_eq, eq-eqb, ne_eqb}
 use Rattle.std.proofs.lemmas.List.{length-set, get_or-set_same, get_or-set_other}
 use Rattle.mls_wire.specs.Reading.{◌>>=◌}
 use Rattle.mls_wire.specs.Format.{IsBytes}
-use Rattle.mls_wire.specs.CombineLaws.{forgotten}
 use Rattle.mls_wire.specs.Combine.{byte_string}
 use Rattle.mls_wire.specs.declared.WireError.TheVariants as wire
+use Rattle.mls_wire.specs.CombineReads.{without_value}
 use Rattle.mls_leaf.specs.declared.error.LeafError.{LeafError}
 use Rattle.mls_leaf.specs.declared.error.LeafError.TheVariants.{Wire, BadTag, UnsupportedCredential, UnsupportedProposal, NotRising, ExtensionNotAllowed}
 use Rattle.mls_leaf.specs.declared.extension.Extension.{Extension}
@@ -182,7 +182,7 @@ pub record PassesOn (total : Result (Unit {0}) ℕ) (marks : List Bool) (bytes :
   pub are : AreMarks marks types
   pub goes_on : PastFrom each_once total types bytes
 
-pub passes_begin : (marks : List Bool) (bytes : List ℕ) → AreClear marks → PassesOn (forgotten (allowed_extensions bytes)) marks bytes
+pub passes_begin : (marks : List Bool) (bytes : List ℕ) → AreClear marks → PassesOn (without_value (allowed_extensions bytes)) marks bytes
 passes_begin marks bytes clear = record { types = []; are = clear_marks marks clear; goes_on = past_begins_from each_once [] bytes }
 
 pub passes_on : (total : Result (Unit {0}) ℕ) (marks : List Bool) (bytes mid rest content : List ℕ) (kind : ℕ) → IsBytes bytes → (type_where (is_unmarked marks)).read bytes ≡ Ok (kind, mid) → byte_string.read mid ≡ Ok (content, rest)

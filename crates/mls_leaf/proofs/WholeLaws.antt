@@ -6,12 +6,14 @@ use Rattle.std.proofs.lemmas.List.{append-nil}
 use Rattle.mls_wire.specs.Reading.{◌>>=◌, rest_of}
 use Rattle.mls_wire.specs.Format.{Format, IsBytes}
 use Rattle.mls_wire.specs.Laws.{ok_is}
-use Rattle.mls_wire.specs.CombineLaws.{good, forgotten, ended, ended_past, entire_takes, entire_passes}
+use Rattle.mls_wire.specs.CombineLaws.{good, entire_takes, entire_passes}
 use Rattle.mls_leaf.specs.declared.error.LeafError.{LeafError}
 use Rattle.mls_wire.specs.ReadFaults.{is_fault, HasFaults, Answered, answered_then, ended_answered}
 use Rattle.mls_wire.specs.declared.WireError.TheVariants as wire
+use Rattle.mls_wire.specs.CombineReads.{without_value, require_end, ended_past}
+use Rattle.mls_wire.specs.Whole.{whole}
 use Rattle.mls_leaf.specs.declared.error.LeafError.TheVariants.{Wire, BadTag, UnsupportedCredential, UnsupportedProposal, NotRising, ExtensionNotAllowed}
-use Rattle.mls_leaf.specs.Faults.{Fails, Outright, Gives, Spells, Tells, ReadsAllPast, number_of, whole, whole_past}
+use Rattle.mls_leaf.specs.Faults.{Fails, Outright, Gives, Spells, Tells, ReadsAllPast, number_of, input_past}
 use Rattle.mls_leaf.specs.WholeLaws.{is_input_fault}
 
 -- a test that went one way
@@ -22,7 +24,7 @@ guard_first false d r y e = e
 pub whole_takes : {V : Type 0} (format : Format V) (limit : ℕ) (bytes : List ℕ) (v : V) → IsBytes bytes → whole format limit bytes ≡ Ok v → Spells format v bytes
 unfolding whole
 whole_takes format limit bytes v fits e =
-    let t = entire_takes format bytes v fits (guard_first (ltb limit (length bytes)) 6 (format.read bytes >>= ended) v e) in
+    let t = entire_takes format bytes v fits (guard_first (ltb limit (length bytes)) 6 (format.read bytes >>= require_end) v e) in
     record { fits = t.1; spelled = t.0 }
 
 pub whole_again : {V : Type 0} (format : Format V) (limit : ℕ) (bytes : List ℕ) (v : V) → Spells format v bytes → length bytes ≤ limit → whole format limit bytes ≡ Ok v
@@ -41,14 +43,14 @@ is_found format limit bytes (Err e) fits given = tt
 abbrev limited : {V : Type 0} → Bool → Result V ℕ → Result V ℕ
 limited b r = cond b (Err 6) r
 
-limited_kept : {V : Type 0} (b : Bool) (p : Result (Unit {0}) ℕ) (r : Result V ℕ) → p ≡ forgotten r → limited b p ≡ forgotten (limited b r)
+limited_kept : {V : Type 0} (b : Bool) (p : Result (Unit {0}) ℕ) (r : Result V ℕ) → p ≡ without_value r → limited b p ≡ without_value (limited b r)
 limited_kept true p r e = refl
 limited_kept false p r e = e
 
-whole_kept : {V : Type 0} (format : Format V) (limit : ℕ) (bytes : List ℕ) → whole_past format.pass limit bytes ≡ forgotten (whole format limit bytes)
-unfolding whole whole_past
+whole_kept : {V : Type 0} (format : Format V) (limit : ℕ) (bytes : List ℕ) → input_past format.pass limit bytes ≡ without_value (whole format limit bytes)
+unfolding whole input_past
 whole_kept format limit bytes =
-    limited_kept (ltb limit (length bytes)) (format.pass bytes >>= ended_past) (format.read bytes >>= ended) (entire_passes format bytes)
+    limited_kept (ltb limit (length bytes)) (format.pass bytes >>= ended_past) (format.read bytes >>= require_end) (entire_passes format bytes)
 
 abbrev refusal : {V : Type 0} → ℕ → Result V ℕ
 refusal n = Err n
@@ -56,13 +58,13 @@ refusal n = Err n
 fault_is : (f g : ℕ) → refusal {V = Unit {0}} f ≡ refusal {V = Unit {0}} g → f ≡ g
 fault_is f g e = cc
 
-tells_kept : {V : Type 0} (r : Result V ℕ) (answer : Result (Unit {0}) LeafError) → ReadsAllPast (forgotten r) answer → Tells r answer
+tells_kept : {V : Type 0} (r : Result V ℕ) (answer : Result (Unit {0}) LeafError) → ReadsAllPast (without_value r) answer → Tells r answer
 tells_kept (Ok v) (Ok _) h = (v, refl)
 tells_kept (Ok v) (Err e) h = absurd cc
 tells_kept (Err f) (Ok _) h = absurd cc
 tells_kept {V} (Err f) (Err e) h = ap (λ (n : ℕ). refusal {V = V} n) (fault_is f (number_of e) h)
 
-pub whole_told : {V : Type 0} (format : Format V) (limit : ℕ) (bytes : List ℕ) (answer : Result (Unit {0}) LeafError) → ReadsAllPast (whole_past format.pass limit bytes) answer → Tells (whole format limit bytes) answer
+pub whole_told : {V : Type 0} (format : Format V) (limit : ℕ) (bytes : List ℕ) (answer : Result (Unit {0}) LeafError) → ReadsAllPast (input_past format.pass limit bytes) answer → Tells (whole format limit bytes) answer
 whole_told format limit bytes answer h = tells_kept (whole format limit bytes) answer (subst (λ (r : Result (Unit {0}) ℕ). ReadsAllPast r answer) (whole_kept format limit bytes) h)
 
 -- ---- what was read past was read
@@ -85,7 +87,7 @@ limited_answered false r h = of_reading r h
 
 pub whole_answered : {V : Type 0} (format : Format V) (limit : ℕ) (bytes : List ℕ) → HasFaults format → InputAnswered (whole format limit bytes)
 unfolding whole
-whole_answered format limit bytes h = limited_answered (ltb limit (length bytes)) (format.read bytes >>= ended) (answered_then (format.read bytes) ended (h.answers bytes) ended_answered)
+whole_answered format limit bytes h = limited_answered (ltb limit (length bytes)) (format.read bytes >>= require_end) (answered_then (format.read bytes) require_end (h.answers bytes) ended_answered)
 
 -- a number that is read is one of them
 pub is_answered : {V : Type 0} (format : Format V) → HasFaults format → (bytes : List ℕ) (n : ℕ) → format.read bytes ≡ Err n → is_fault n ≡ true
@@ -98,7 +100,7 @@ is_input_answered {V} format limit h bytes n e = subst (λ (r : Result V ℕ). I
 
 never_memory : {V : Type 0} (r : Result V ℕ) → InputAnswered r → r ≡ Err 1 → ⊥
 never_memory (Ok v) h e = cc
-never_memory {V} (Err n) h e = let one : n ≡ 1 = fault_is n 1 (ap forgotten e) in let no : is_input_fault 1 ≡ true = subst (λ (k : ℕ). is_input_fault k ≡ true) one h in cc
+never_memory {V} (Err n) h e = let one : n ≡ 1 = fault_is n 1 (ap without_value e) in let no : is_input_fault 1 ≡ true = subst (λ (k : ℕ). is_input_fault k ≡ true) one h in cc
 
 -- an error that is a fault is no want of memory
 pub told_outright : {V : Type 0} (e : LeafError) (r : Result V ℕ) → InputAnswered r → r ≡ Err (number_of e) → Outright r e

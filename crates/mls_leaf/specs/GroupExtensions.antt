@@ -1,10 +1,12 @@
--- The extensions that a group carries: of types for private use, each type at most once.
+-- The extensions that a group carries (RFC 9420, 8.1 and 13.4): of types for private use alone, which is this project's
+-- profile, and each type at most once.
 use Rattle.std.specs.Prelude.{◌≡◌, ℕ, ◌==◌, nat_le, nat_lt, Bool, true, false, not, ◌&&◌, ◌||◌, List, [], ◌∷◌, length, Result, refl}
 use Rattle.mls_wire.specs.Format.{Format}
-use Rattle.mls_wire.specs.CombineLaws.{IsNonempty}
 use Rattle.mls_wire.specs.ReadFaults.{HasFaults, pair_faults, seen_answered, guarded_faults, vector_from_faults, byte_string_faults, uint16_faults}
-use Rattle.mls_wire.specs.Combine.{◌⨾◌, seen, guarded, byte_string, uint16}
-use Rattle.mls_wire.specs.Stateful.{Rule, run_at, vector_from}
+use Rattle.mls_wire.specs.Combine.{◌⨾◌, image, with_test, byte_string, uint16}
+use Rattle.mls_wire.specs.Stateful.{vector_from}
+use Rattle.mls_wire.specs.CombineReads.{IsNonempty}
+use Rattle.mls_wire.specs.StatefulReads.{Rule, run_at}
 use Rattle.mls_leaf.specs.Limits.{input_limit}
 use Rattle.mls_leaf.specs.Nonempty.{uint16_nonempty, first_nonempty, vector_from_nonempty}
 use Rattle.mls_leaf.specs.declared.extension.Extension.{Extension}
@@ -39,14 +41,21 @@ AreAllowed vs value = (value ≡ vs) × (are_allowed vs ≡ true)
 
 -- an extension whose type passes a test, else `ExtensionNotAllowed` (14), before its data are read
 abbrev pub extension_where : (ℕ → Bool) → Format Extension
-extension_where allowed = seen (guarded uint16 allowed 14 ⨾ byte_string) (λ x. record { kind = x.0; content = x.1 }) (λ v. (v.kind, v.content)) (λ v. refl) (λ x _. refl)
+extension_where allowed = image (with_test uint16 allowed 14 ⨾ byte_string)
+    (λ x. record { kind = x.0; content = x.1 })
+    (λ v. (v.kind, v.content))
+    (λ v. refl) (λ x _. refl)
 
 pub extension_where_nonempty : (allowed : ℕ → Bool) → IsNonempty (extension_where allowed)
-extension_where_nonempty allowed v fits = first_nonempty (guarded uint16 allowed 14) byte_string (λ n h. uint16_nonempty n h.0) (v.kind, v.content) fits
+extension_where_nonempty allowed v fits = first_nonempty (with_test uint16 allowed 14) byte_string (λ n h. uint16_nonempty n h.0) (v.kind, v.content) fits
 
 -- behind an extension none of its type may stand
 abbrev pub each_once : Rule (List ℕ) Extension
-each_once = record { item = λ types. extension_where (is_new types); next = λ types v. v.kind ∷ types; nonempty = λ types. extension_where_nonempty (is_new types) }
+each_once = record {
+  item = λ types. extension_where (is_new types);
+  next = λ types v. v.kind ∷ types;
+  nonempty = λ types. extension_where_nonempty (is_new types);
+}
 
 -- the extensions that all of the bytes spell, which a group may carry
 abbrev pub allowed_extensions : List ℕ → Result (List Extension) ℕ

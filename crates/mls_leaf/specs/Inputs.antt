@@ -1,4 +1,5 @@
--- The inputs that are only written, to be hashed or signed: each is its parts in order.
+-- The inputs that are only written, to be hashed or signed (RFC 9420, 7.2, 7.8, 7.9 and 10): each is its parts in
+-- order.
 use Rattle.std.specs.Prelude.{ℕ, ◌<◌, ◌^◌, List, [], ◌++◌, Option}
 use Rattle.std.specs.Int.{w8, w16, w32}
 use Rattle.mls_wire.specs.Reading.{uint, opaque}
@@ -39,7 +40,9 @@ ParentHashInputFits encryption_key parent_hash sibling = byte_string.Fits encryp
 
 -- the leaf's fields before its signature, with its empty extensions (RFC 9420, 7.2)
 unfoldable pub leaf_content : LeafNode → List ℕ
-leaf_content v = opaque v.encryption_key ++ opaque v.signature_key ++ credential.spell v.credential ++ capabilities.spell v.capabilities ++ leaf_source.spell v.source ++ opaque []
+leaf_content v =
+    opaque v.encryption_key ++ opaque v.signature_key ++ credential.spell v.credential
+    ++ capabilities.spell v.capabilities ++ leaf_source.spell v.source ++ opaque []
 
 -- each vector in it has a header
 abbrev pub LeafContentFits : LeafNode → Type 0

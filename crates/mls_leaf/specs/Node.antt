@@ -1,9 +1,9 @@
--- The format of nodes.
+-- The format of nodes (RFC 9420, 12.4.3.3).
 use Rattle.std.specs.Prelude.{◌≡◌, refl}
 use Rattle.std.proofs.Common.{◌⊎◌, inl, inr}
 use Rattle.mls_wire.specs.Format.{Format}
-use Rattle.mls_wire.specs.CombineLaws.{IsNonempty}
-use Rattle.mls_wire.specs.Combine.{seen, case, others, by_uint8}
+use Rattle.mls_wire.specs.Combine.{image, case, others, by_uint8}
+use Rattle.mls_wire.specs.CombineReads.{IsNonempty}
 use Rattle.mls_leaf.specs.Nonempty.{by_uint8_nonempty}
 use Rattle.mls_leaf.specs.Leaf.{leaf_node}
 use Rattle.mls_leaf.specs.Parent.{Parent}
@@ -38,9 +38,9 @@ node_back (inl x) = refl
 node_back (inr (inl x)) = refl
 node_back (inr (inr x)) = absurd x
 
--- Node (RFC 9420, 12.4.3.3): uint8 kind, and its node; another kind is `BadTag` (7)
+-- Node (RFC 9420, 12.4.3.3): uint8 kind, then its LeafNode or ParentNode; another kind is `BadTag` (7)
 unfoldable pub node : Format declared.Node
-node = seen (by_uint8 (case 1 leaf_node (case 2 parent_node (others 7)))) make_node node_parts node_there (λ x _. node_back x)
+node = image (by_uint8 (case 1 leaf_node (case 2 parent_node (others 7)))) make_node node_parts node_there (λ x _. node_back x)
 
 pub node_nonempty : IsNonempty node
 unfolding node

@@ -1,14 +1,14 @@
--- Parents, and lists of leaf indices that rise.
+-- Parents, and lists of leaf indices that rise (RFC 9420, 7.1).
 use Rattle.std.specs.Prelude.{◌≡◌, ℕ, ◌+◌, ◌==◌, nat_lt, nat_le, Bool, true, not, ◌&&◌, if◌then◌else◌, List, [], ◌∷◌, length, filter, insert, ◌≤◌}
 
--- What a parent holds (RFC 9420, section 7.1): its public key, its parent hash, and the unmerged leaves, which are those
--- below it that do not know its private key.
+-- What a parent holds (RFC 9420, section 7.1): its public key, its parent hash, and the unmerged leaves, which are
+-- those below it that do not know its private key.
 pub record Parent : Type 0 where
   pub encryption_key : List ℕ
   pub parent_hash : List ℕ
   pub unmerged_leaves : List ℕ
 
--- Whether each number is above the one before it, and the first is no less than a bound.
+-- Whether each number is above the one before it, and the first is no less than a bound (RFC 9420, 7.1).
 unfoldable pub rises_from : ℕ → List ℕ → Bool
 rises_from low [] = true
 rises_from low (x ∷ xs) = nat_le low x && rises_from (x + 1) xs
@@ -17,7 +17,7 @@ rises_from low (x ∷ xs) = nat_le low x && rises_from (x + 1) xs
 abbrev pub rises : List ℕ → Bool
 rises xs = rises_from 0 xs
 
--- A number put into a rising list, where it stands once.
+-- A number put into a rising list, where it stands once (RFC 9420, 7.1 and 12.1.1).
 unfoldable pub rising_with : ℕ → List ℕ → List ℕ
 rising_with x [] = x ∷ []
 rising_with x (y ∷ ys) = if nat_lt x y then x ∷ y ∷ ys else if x == y then y ∷ ys else y ∷ rising_with x ys

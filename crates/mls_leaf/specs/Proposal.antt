@@ -1,9 +1,9 @@
--- The format of proposals.
+-- The format of proposals (RFC 9420, 12.1).
 use Rattle.std.specs.Prelude.{◌≡◌, ℕ, List, refl}
 use Rattle.std.proofs.Common.{◌⊎◌, inl, inr}
 use Rattle.mls_wire.specs.Format.{Format}
-use Rattle.mls_wire.specs.CombineLaws.{IsNonempty}
-use Rattle.mls_wire.specs.Combine.{seen, case, others, by_uint16, uint32}
+use Rattle.mls_wire.specs.Combine.{image, case, others, by_uint16, uint32}
+use Rattle.mls_wire.specs.CombineReads.{IsNonempty}
 use Rattle.mls_leaf.specs.Nonempty.{by_uint16_nonempty}
 use Rattle.mls_leaf.specs.Leaf.{leaf_node}
 use Rattle.mls_leaf.specs.KeyPackage.{key_package}
@@ -20,12 +20,13 @@ use Rattle.mls_leaf.specs.declared.proposal.Proposal.TheVariants.{Add, Update, R
 abbrev pub Proposals : Type 0
 Proposals = KeyPackage ⊎ (LeafNode ⊎ (ℕ ⊎ (List Extension ⊎ ⊥)))
 
-abbrev pub make_proposal : Proposals → declared.Proposal
-make_proposal (inl x) = Add x
-make_proposal (inr (inl x)) = Update x
-make_proposal (inr (inr (inl x))) = Remove x
-make_proposal (inr (inr (inr (inl x)))) = GroupContextExtensions x
-make_proposal (inr (inr (inr (inr x)))) = absurd x
+-- the proposal of what stands behind its type
+abbrev pub proposal_of_parts : Proposals → declared.Proposal
+proposal_of_parts (inl x) = Add x
+proposal_of_parts (inr (inl x)) = Update x
+proposal_of_parts (inr (inr (inl x))) = Remove x
+proposal_of_parts (inr (inr (inr (inl x)))) = GroupContextExtensions x
+proposal_of_parts (inr (inr (inr (inr x)))) = absurd x
 
 -- what stands behind the type of a proposal
 abbrev pub proposal_parts : declared.Proposal → Proposals
@@ -34,13 +35,13 @@ proposal_parts (Update x) = inr (inl x)
 proposal_parts (Remove x) = inr (inr (inl x))
 proposal_parts (GroupContextExtensions x) = inr (inr (inr (inl x)))
 
-pub proposal_there : (v : declared.Proposal) → make_proposal (proposal_parts v) ≡ v
+pub proposal_there : (v : declared.Proposal) → proposal_of_parts (proposal_parts v) ≡ v
 proposal_there (Add x) = refl
 proposal_there (Update x) = refl
 proposal_there (Remove x) = refl
 proposal_there (GroupContextExtensions x) = refl
 
-pub proposal_back : (x : Proposals) → proposal_parts (make_proposal x) ≡ x
+pub proposal_back : (x : Proposals) → proposal_parts (proposal_of_parts x) ≡ x
 proposal_back (inl x) = refl
 proposal_back (inr (inl x)) = refl
 proposal_back (inr (inr (inl x))) = refl
@@ -49,7 +50,9 @@ proposal_back (inr (inr (inr (inr x)))) = absurd x
 
 -- Proposal (RFC 9420, 12.1): uint16 type, and what it calls for; another type is `UnsupportedProposal` (12)
 unfoldable pub proposal : Format declared.Proposal
-proposal = seen (by_uint16 (case 1 key_package (case 2 leaf_node (case 3 uint32 (case 7 group_extensions (others 12)))))) make_proposal proposal_parts proposal_there (λ x _. proposal_back x)
+proposal = image
+    (by_uint16 (case 1 key_package (case 2 leaf_node (case 3 uint32 (case 7 group_extensions (others 12))))))
+    proposal_of_parts proposal_parts proposal_there (λ x _. proposal_back x)
 
 pub proposal_nonempty : IsNonempty proposal
 unfolding proposal

@@ -1,4 +1,4 @@
--- The reference of a KeyPackage.
+-- The reference of a KeyPackage (RFC 9420, 5.2).
 use Rattle.std.specs.Prelude.{ℕ, List, codes}
 use Rattle.mls_kdf.specs.Kdf.{ref_hash}
 

@@ -1,7 +1,7 @@
 -- Which types for private use were had, as a bitmap: the mark at k is of the type 61440 + k.
 use Rattle.std.specs.Prelude.{◌≡◌, ℕ, ◌-◌, Bool, true, false, not, ◌&&◌, List, length, set, slice_index_or}
 use Rattle.mls_wire.specs.Format.{Format}
-use Rattle.mls_wire.specs.Combine.{guarded, uint16}
+use Rattle.mls_wire.specs.Combine.{with_test, uint16}
 use Rattle.mls_leaf.specs.GroupExtensions.{is_private}
 
 -- how many types are for private use
@@ -22,4 +22,4 @@ AreClear marks = (length marks ≡ private_types) × ((k : ℕ) → slice_index_
 
 -- the type of an extension, which passes a test, else `ExtensionNotAllowed` (14)
 abbrev pub type_where : (ℕ → Bool) → Format ℕ
-type_where allowed = guarded uint16 allowed 14
+type_where allowed = with_test uint16 allowed 14

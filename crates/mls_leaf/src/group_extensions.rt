@@ -3,8 +3,8 @@
 ghost use Rattle.std.specs.Prelude.{◌≡◌, ◌≤◌, [], List, length, true, false, MatchResult, IfOk};
 ghost use Rattle.std.specs.Cmp.{and_equiv, on_equiv, nat_eq_equiv, partial_equiv_from_equiv};
 ghost use Rattle.std.specs.Cmp.Lexicographic.{pointwise, lists_equiv, nat_list_eq_equiv};
-ghost use Rattle.mls_wire.specs.CombineLaws.{forgotten};
 ghost use Rattle.mls_wire.specs.Reading.{header};
+ghost use Rattle.mls_wire.specs.CombineReads.{without_value};
 ghost use Rattle.mls_leaf.specs.declared.error.LeafError.TheVariants.{ExtensionNotAllowed};
 ghost use Rattle.mls_leaf.specs.declared.extension.Extension.{Extension};
 ghost use Rattle.mls_leaf.specs.Faults.{Gives, AddsSpelling, ReadsAllPast};
@@ -55,7 +55,7 @@ fn extensions_of(alloc: Global, mut content: Reader<'_>) -> Result<Vec<Extension
 
 /// Whether the bytes spell extensions that a group may carry.
 fn check_extensions(mut content: Reader<'_>) -> Result<(), LeafError>
-    ensures { ReadsAllPast (forgotten (allowed_extensions content.entry)) result }
+    ensures { ReadsAllPast (without_value (allowed_extensions content.entry)) result }
 {
     let mut marks = no_marks();
     while !content.is_empty() {

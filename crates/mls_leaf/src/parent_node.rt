@@ -1,12 +1,12 @@
 //! Parents.
 
 ghost use Rattle.std.specs.Prelude.{◌≡◌, ℕ, ◌+◌, ◌<◌, ◌≤◌, Bool, true, false, List, length, Result, Ok, MatchResult, MatchOption, IfOk, IsOk, insert};
-ghost use Rattle.mls_wire.specs.CombineLaws.{forgotten};
 ghost use Rattle.mls_wire.specs.Stateful.{vector_from};
+ghost use Rattle.mls_wire.specs.CombineReads.{without_value};
 ghost use Rattle.mls_leaf.specs.declared.error.LeafError.TheVariants.{NotRising};
 ghost use Rattle.mls_leaf.specs.Faults.{Gives, AddsSpelling, ReadsFrontNow, ReadsAllPast};
 ghost use Rattle.mls_leaf.specs.Parent.{Parent, IsParentOf, rises, rising_with, IsPlaceFor, with_unmerged, without_unmerged, ListsUnmerged, HasNewUnmerged};
-ghost use Rattle.mls_leaf.specs.ParentNode.{entry_from, rising, rising_entries, parent_node, parent_node_nonempty, parent_node_faults};
+ghost use Rattle.mls_leaf.specs.ParentNode.{entry_from, rising_rule, rising_entries, parent_node, parent_node_nonempty, parent_node_faults};
 
 use crate::bytes::Bytes;
 use crate::codec::Codec;
@@ -77,7 +77,7 @@ fn rising_of(alloc: Global, mut content: Reader<'_>) -> Result<Vec<u32>, LeafErr
 
 /// Whether the bytes spell rising entries.
 fn check_rising(mut content: Reader<'_>) -> Result<(), LeafError>
-    ensures { ReadsAllPast (forgotten (rising_entries content.entry)) result }
+    ensures { ReadsAllPast (without_value (rising_entries content.entry)) result }
 {
     let mut least = 0u64;
     while !content.is_empty() {
@@ -91,7 +91,7 @@ fn check_rising(mut content: Reader<'_>) -> Result<(), LeafError>
 #[tactic(auto, using(crate::proofs::ParentLaws::rising_added))]
 fn add_rising(alloc: Global, entries: &[u32], writer: &mut Writer) -> Result<(), LeafError>
     requires { rises entries.now ≡ true }
-    ensures { AddsSpelling (vector_from rising 0) entries.now writer.old result writer.new }
+    ensures { AddsSpelling (vector_from rising_rule 0) entries.now writer.old result writer.new }
 {
     add_vector(alloc, entries, writer)
 }

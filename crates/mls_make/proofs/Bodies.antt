@@ -10,8 +10,8 @@ use Rattle.mls_types.specs.Content.{framed_content}
 use Rattle.mls_types.specs.declared.commit.Commit.{Commit}
 use Rattle.mls_types.specs.declared.content.FramedContent.{FramedContent}
 use Rattle.mls_suite.specs.Crypto.{Crypto}
-use Rattle.mls_checks.specs.Checks.{replaced_checks}
-use Rattle.mls_checks.specs.declared.checks.Source.TheVariants as replaced_for
+use Rattle.mls_checks.specs.Checks.{replacement_checks}
+use Rattle.mls_checks.specs.declared.checks.LeafUse.TheVariants as replaced_for
 use Rattle.mls_tree_model.specs.Term.{Term}
 use Rattle.mls_tree_model.specs.Way.{way}
 use Rattle.mls_tree.specs.Tree.{member_at}
@@ -19,15 +19,13 @@ use Rattle.mls_tree.specs.Paths.{merge_answer}
 use Rattle.mls_treekem_model.specs.Make.{Climb, climb_make}
 use Rattle.mls_treekem_model.specs.Seal.{sealed_path}
 use Rattle.mls_treekem_model.specs.Seeds.{path_seed, seal_seed}
-use Rattle.mls_treekem_model.specs.Whole.{keys_of_path}
+use Rattle.mls_treekem_model.specs.Chain.{keys_of_path}
 use Rattle.mls_model.specs.PublicState.{Used, provisional_context}
 use Rattle.mls_model.specs.Proposals.{is_path_required}
 use Rattle.mls_model.specs.Candidate.{leaf_key_of}
-use Rattle.mls_model.specs.Commit.{Edits, apply_path_if, change_after_edits}
+use Rattle.mls_model.specs.Commit.{Edits, apply_path_if, change_after_edits, change_of}
 use Rattle.mls_model.specs.Member.{Member}
-use Rattle.mls_model.specs.Make.{MadePath, committed_leaf, new_path, no_path}
-use Rattle.mls_commit.specs.Change.{change_of}
-use Rattle.mls_make.specs.CommitSteps.{carried_after, path_if_needed, path_with}
+use Rattle.mls_model.specs.Make.{MadePath, committed_leaf, new_path, no_path, carried_after, path_if_needed, path_with}
 
 -- ---- the body of a commit whose checks have passed
 
@@ -50,7 +48,7 @@ unfolding new_path
 new_path_some c m carried e seed made h =
     let old = bind_ok (member_at m.public.tree m.keys.leaf) _ made h in
     let leaf : LeafNode = committed_leaf c m e old.0 seed in
-    let checks = then_ok (replaced_checks c leaf old.0 replaced_for.Commit m.public.context.group_id m.keys.leaf) _ made old.2 in
+    let checks = then_ok (replacement_checks c leaf old.0 replaced_for.Commit m.public.context.group_id m.keys.leaf) _ made old.2 in
     let tree = bind_ok (merge_answer e.tree m.keys.leaf leaf (keys_of_path c e.tree m.keys.leaf (path_seed seed))) _ made checks.1 in
     let nodes = bind_ok (sealed_path c (group_context.spell (provisional_context m.public.context carried tree.0)) e.added (seal_seed seed) e.tree m.keys.leaf (path_seed seed)) _ made tree.2 in
     some_there (record { leaf_node = leaf; nodes = nodes.0 }) (climb_make c (way 0 e.tree m.keys.leaf) (path_seed seed) (leaf_key_of c seed)) made _ refl nodes.2

@@ -18,24 +18,23 @@ use Rattle.mls_leaf.specs.declared.proposal.Proposal as proposals
 use Rattle.mls_leaf.specs.declared.proposal.Proposal.TheVariants.{Add, Update, Remove, GroupContextExtensions}
 use Rattle.mls_types.specs.Commit.{proposal_or_ref}
 use Rattle.mls_types.specs.Content.{framed_content}
-use Rattle.mls_types.specs.SignedParts.{signed_with}
+use Rattle.mls_types.specs.SignedParts.{with_signature}
 use Rattle.mls_types.specs.declared.commit.Commit.{Commit}
 use Rattle.mls_types.specs.declared.commit.ProposalOrRef.{ProposalOrRef}
 use Rattle.mls_types.specs.declared.commit.ProposalOrRef.TheVariants as listed
 use Rattle.mls_suite.specs.Crypto.{Crypto, Lawful}
 use Rattle.mls_tree_model.specs.Term.{Term}
 use Rattle.mls_model.specs.PublicState.{Used}
-use Rattle.mls_model.specs.Proposals.{extended, extension_lists, extensions_in, first_list, is_path_required}
+use Rattle.mls_model.specs.Proposals.{extensions_after, extension_lists, extensions_in, first_list, is_path_required}
 use Rattle.mls_model.specs.Commit.{Edits, apply_proposals, apply_path_if}
 use Rattle.mls_model.specs.Member.{KeptProposal, Member, find_proposal, find_proposals}
-use Rattle.mls_model.specs.Messages.{is_within_limit, message_by}
-use Rattle.mls_model.specs.Make.{MadePath, new_path, no_path}
+use Rattle.mls_model.specs.Messages.{require_within_limit, message_by}
+use Rattle.mls_model.specs.Make.{MadePath, new_path, no_path, carried_after, path_if_needed, path_with, commit_from_proposals}
 use Rattle.mls_public_group.specs.Short.{IsBelow, IsProposalBelow, AreBelow}
 use Rattle.mls_public_group.proofs.ShortLaws.{below_more, list_below}
 use Rattle.mls_message.proofs.Refusals.{refused_long}
 use Rattle.mls_update_path.proofs.OtherExtensions.{AreAlike, new_path_alike, new_path_merges}
 use Rattle.mls_make.specs.CommitCall.{HasShortParts, IsShortUsed, AreShortUsed, IsUsable, AreUsable}
-use Rattle.mls_make.specs.CommitSteps.{carried_after, path_if_needed, path_with, commit_from_proposals}
 use Rattle.mls_make.specs.LongList.{IsRefusalPast, give_long_list, gives_long_list, has_long_list}
 use Rattle.mls_make.proofs.Lengths.{back, front, commit_within, items_inside, listed_inside, named_kept}
 use Rattle.mls_make.proofs.Steps.{said_in, commit_in, path_fails, content_fails}
@@ -133,7 +132,7 @@ six_is e = absurd cc
 
 -- whatever its signature and its tag are
 too_long : (m : Member) (list : List ProposalOrRef) (used : List Used) (made : MadePath) → find_proposals m.kept m.keys.leaf list ≡ Ok used → give_long_list used ≡ true →
-    (signature tag : List ℕ) → is_within_limit (message_by m (signed_with (said_in m list made) signature tag)) ≡ Err 6
+    (signature tag : List ℕ) → require_within_limit (message_by m (with_signature (said_in m list made) signature tag)) ≡ Err 6
 too_long m list used made found long = refused_long m (said_in m list made) (Wire wire.TooLong) (λ no. (refl, said_long m list used made found long)) six_is
 
 pub long_list_fails : (c : Crypto) → Lawful c → (m : Member) (list : List ProposalOrRef) (used : List Used) (wants : Bool) (seed : List ℕ) (e : Edits) (n : ℕ) →
@@ -194,8 +193,8 @@ first_below old (Update x) full lists h kept none rest = rest
 first_below old (Remove i) full lists h kept none rest = rest
 first_below old (GroupContextExtensions list) full lists h kept none rest = list_below (2 ^ 27) list (extensions_below full list h kept none)
 
-pub carried_below : (old : List Extension) (used : List Used) → IsBelow (2 ^ 27) group_extensions old → AreUsable used → give_long_list used ≡ false → IsBelow (2 ^ 27) group_extensions (extended old used)
-unfolding extended extension_lists
+pub carried_below : (old : List Extension) (used : List Used) → IsBelow (2 ^ 27) group_extensions old → AreUsable used → give_long_list used ≡ false → IsBelow (2 ^ 27) group_extensions (extensions_after old used)
+unfolding extensions_after extension_lists
 carried_below old [] short h none = short
 carried_below old (u ∷ us) short h none =
     let both = none_either (gives_long_list u) (give_long_list us) none in

@@ -22,7 +22,7 @@ use Rattle.mls_model.specs.PublicState.{Used}
 use Rattle.mls_model.specs.Proposals.{adds, is_path_required}
 use Rattle.mls_model.specs.Commit.{Edits, apply_proposals}
 use Rattle.mls_model.specs.Member.{Member}
-use Rattle.mls_model.specs.Make.{MadePath, new_path, no_path, path_secret_for}
+use Rattle.mls_model.specs.Make.{MadePath, new_path, no_path, path_secret_for, carried_after, path_if_needed, path_with}
 use Rattle.mls_model.specs.Welcome.{secrets_with}
 use Rattle.mls_theorems.proofs.Joining.{edits_add}
 use Rattle.mls_theorems.proofs.Staying.{edits_follow_committer}
@@ -30,7 +30,6 @@ use Rattle.mls_theorems.specs.CommitLaws.{IsJoiner}
 use Rattle.mls_welcome.specs.Joiners.{package_and_leaf_of, AreSecretsOf}
 use Rattle.mls_welcome.specs.SentSecrets.{AreSentTo}
 use Rattle.mls_welcome.specs.declared.welcome_message.Joiner.{Joiner}
-use Rattle.mls_make.specs.CommitSteps.{carried_after, path_if_needed, path_with}
 use Rattle.mls_make.specs.OwnPath.{HaveSecrets}
 
 -- ---- the committer has a leaf, where it made a path

@@ -6,7 +6,7 @@ use Rattle.mls_leaf.specs.declared.extension.Extension.{Extension}
 use Rattle.mls_leaf.specs.declared.key_package.KeyPackage.{KeyPackage}
 use Rattle.mls_types.specs.declared.update_path.UpdatePath.{UpdatePath}
 use Rattle.mls_types.specs.Content.{framed_content}
-use Rattle.mls_types.specs.SignedParts.{signed_with}
+use Rattle.mls_types.specs.SignedParts.{with_signature}
 use Rattle.mls_types.specs.declared.commit.Commit.{Commit}
 use Rattle.mls_types.specs.declared.commit.ProposalOrRef.{ProposalOrRef}
 use Rattle.mls_types.specs.declared.content.Content.TheVariants as says
@@ -16,18 +16,16 @@ use Rattle.mls_tree_model.specs.Term.{Term}
 use Rattle.mls_treekem_model.specs.Seeds.{seal_seed}
 use Rattle.mls_model.specs.PublicState.{Used}
 use Rattle.mls_model.specs.Proposals.{adds}
-use Rattle.mls_model.specs.Commit.{Edits, Change, apply_proposals, apply_path_if, public_with}
+use Rattle.mls_model.specs.Commit.{Edits, Change, apply_proposals, apply_path_if, public_with, change_of}
 use Rattle.mls_model.specs.Member.{Member, find_proposals, with_keys}
-use Rattle.mls_model.specs.Messages.{is_within_limit, content_by, content_signature, message_by}
-use Rattle.mls_model.specs.Make.{MadePath, Made, path_secret_for, path_seals, welcome_if, make}
+use Rattle.mls_model.specs.Messages.{require_within_limit, content_by, content_signature, message_by}
+use Rattle.mls_model.specs.Make.{MadePath, Made, path_secret_for, path_seals, welcome_if, make, carried_after, path_if_needed, path_with, commit_from_change, commit_from_path, commit_from_proposals}
 use Rattle.mls_model.specs.Welcome.{unsigned_info, signed_info, secrets_with, welcome_message}
-use Rattle.mls_commit.specs.Change.{change_of}
 use Rattle.mls_public_group.specs.MessageLimit.{limited_text}
 use Rattle.mls_message.specs.Speaks.{Speaks}
 use Rattle.mls_message.specs.declared.speaker.Speaker.{Speaker}
 use Rattle.mls_theorems.specs.CommitCalls.{joiner_of, epoch_of, tag_of}
 use Rattle.mls_make.proofs.Bodies.{body_is, path_due}
-use Rattle.mls_make.specs.CommitSteps.{carried_after, path_if_needed, path_with, commit_from_change, commit_from_path, commit_from_proposals}
 
 -- ---- the checks before them (RFC 9420, 12.4.1)
 
@@ -79,7 +77,7 @@ module _ (c : Crypto) (m : Member) (list : List ProposalOrRef) (used : List Used
         made_is = made_by_is ∙ made_with_is
 
         -- a content alone is too large
-        pub content_fails : (n : ℕ) → ((signature tag : List ℕ) → is_within_limit (message_by m (signed_with (said_in m list made) signature tag)) ≡ Err n) → commit_from_proposals c m list used wants_path seed ≡ Err n
+        pub content_fails : (n : ℕ) → ((signature tag : List ℕ) → require_within_limit (message_by m (with_signature (said_in m list made) signature tag)) ≡ Err n) → commit_from_proposals c m list used wants_path seed ≡ Err n
         unfolding commit_from_change
         content_fails n h = made_is ∙ rw (h _ _) refl
 
@@ -90,7 +88,7 @@ abbrev pub made_as_of : Member → MadePath → Change → List ℕ → Option (
 made_as_of m made change bytes welcome = record {
   commit = bytes;
   welcome = welcome;
-  pending = record { message = bytes; public = public_with change (tag_of m made change); epoch = epoch_of m made change; keys = with_keys m.keys made.climb.keys };
+  pending = record { message = bytes; public = public_with change (tag_of m made change); epoch_secret = epoch_of m made change; keys = with_keys m.keys made.climb.keys };
 }
 
 through : {A : Type 0} (r : Result Passed ℕ) (bytes : List ℕ) (f : List ℕ → Result A ℕ) → (r >> f bytes) ≡ ((r >> Ok bytes) >>= f)
@@ -99,14 +97,14 @@ through (Err n) bytes f = refl
 
 module _ (c : Crypto) (m : Member) (said : FramedContent) (signature : List ℕ) (used : List Used) (e : Edits) (made : MadePath) (seed : List ℕ) (change : Change) where
   abbrev message : List ℕ
-  message = message_by m (signed_with said signature (tag_of m made change))
+  message = message_by m (with_signature said signature (tag_of m made change))
 
   abbrev with_welcome : Result (Option (List ℕ)) ℕ
   with_welcome = welcome_if c m change made (joiner_of m made change) (tag_of m made change) seed (zip (adds used) e.added)
 
   pub made_of_is : commit_from_change c m said signature used e made seed change ≡ (limited_text message >>= λ bytes. with_welcome >>= λ welcome. Ok (made_as_of m made change bytes welcome))
   unfolding commit_from_change joiner_of epoch_of tag_of
-  made_of_is = through (is_within_limit message) message (λ bytes. with_welcome >>= λ welcome. Ok (made_as_of m made change bytes welcome))
+  made_of_is = through (require_within_limit message) message (λ bytes. with_welcome >>= λ welcome. Ok (made_as_of m made change bytes welcome))
 
   pub message_fails : (n : ℕ) → limited_text message ≡ Err n → commit_from_change c m said signature used e made seed change ≡ Err n
   message_fails n h = made_of_is ∙ ap (λ (r : Result (List ℕ) ℕ). r >>= λ bytes. with_welcome >>= λ welcome. Ok (made_as_of m made change bytes welcome)) h

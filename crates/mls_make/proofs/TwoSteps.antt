@@ -12,7 +12,7 @@ use Rattle.mls_types.specs.GroupContext.{group_context}
 use Rattle.mls_leaf.specs.Limits.{input_limit}
 use Rattle.mls_types.specs.Commit.{commit as commit_format}
 use Rattle.mls_types.specs.Content.{framed_content}
-use Rattle.mls_types.specs.SignedParts.{signed_with}
+use Rattle.mls_types.specs.SignedParts.{with_signature}
 use Rattle.mls_types.specs.declared.commit.Commit.{Commit}
 use Rattle.mls_types.specs.declared.commit.ProposalOrRef.{ProposalOrRef}
 use Rattle.mls_types.specs.declared.content.Content.TheVariants as says
@@ -24,12 +24,11 @@ use Rattle.mls_treekem_model.specs.Seeds.{seal_seed}
 use Rattle.mls_schedule.specs.Epoch.{init_secret, joiner_secret, epoch_secret, confirmation_tag}
 use Rattle.mls_model.specs.PublicState.{PublicState, Used}
 use Rattle.mls_model.specs.Proposals.{adds}
-use Rattle.mls_model.specs.Commit.{Edits, Change, apply_proposals, apply_path_if, change_after_edits, public_with}
+use Rattle.mls_model.specs.Commit.{Edits, Change, apply_proposals, apply_path_if, change_after_edits, public_with, change_of}
 use Rattle.mls_model.specs.Member.{Member, with_keys}
-use Rattle.mls_model.specs.Messages.{is_within_limit, content_by, content_signature, message_by}
-use Rattle.mls_model.specs.Make.{Made, MadePath, welcome_if, path_secret_for, path_seals}
+use Rattle.mls_model.specs.Messages.{require_within_limit, content_by, content_signature, message_by}
+use Rattle.mls_model.specs.Make.{Made, MadePath, welcome_if, path_secret_for, path_seals, carried_after, path_if_needed, commit_from_change, commit_from_path}
 use Rattle.mls_model.specs.Welcome.{secrets_with, unsigned_info, signed_info, welcome_message}
-use Rattle.mls_commit.specs.Change.{change_of}
 use Rattle.mls_public_group.specs.MessageLimit.{limited_text}
 use Rattle.mls_message.specs.Speaks.{Speaks}
 use Rattle.mls_message.specs.declared.speaker.Speaker.{Speaker}
@@ -40,7 +39,6 @@ use Rattle.mls_welcome.specs.SentSecrets.{AreSentTo}
 use Rattle.mls_welcome.specs.declared.welcome_message.Joiner.{Joiner}
 use Rattle.mls_make.proofs.Bodies.{body_is, path_due}
 use Rattle.mls_make.proofs.Lengths.{commit_within}
-use Rattle.mls_make.specs.CommitSteps.{carried_after, path_if_needed, commit_from_change, commit_from_path}
 use Rattle.mls_make.specs.CommitCall.{AreCarriedBy}
 use Rattle.mls_make.specs.OwnPath.{IsOwn}
 use Rattle.mls_make.specs.TwoSteps.{SentCommit, send_commit, welcome_from, with_welcome}
@@ -51,20 +49,20 @@ commit_of list made = record { proposals = list; path = made.path }
 
 -- ---- the first step
 
-refused_through : {A : Type 0} (bytes : List ℕ) (x : A) (n : ℕ) → limited_text bytes ≡ Err n → (is_within_limit bytes >> Ok x) ≡ Err n
-refused_through bytes x n h = through (is_within_limit bytes) h
+refused_through : {A : Type 0} (bytes : List ℕ) (x : A) (n : ℕ) → limited_text bytes ≡ Err n → (require_within_limit bytes >> Ok x) ≡ Err n
+refused_through bytes x n h = through (require_within_limit bytes) h
   where
     through : (r : Result Passed ℕ) → (r >> Ok bytes) ≡ Err n → (r >> Ok x) ≡ Err n
     through (Ok p) e = cc
     through (Err k) e = cc
 
 -- a content alone is too large
-pub content_refused : (c : Crypto) (m : Member) (carried : List Extension) (commit : Commit) (e : Edits) (t : Term) (secret : List ℕ) (n : ℕ) → ((signature tag : List ℕ) → is_within_limit (message_by m (signed_with (content_by m (says.Commit commit)) signature tag)) ≡ Err n) → send_commit c m carried commit e t secret ≡ Err n
+pub content_refused : (c : Crypto) (m : Member) (carried : List Extension) (commit : Commit) (e : Edits) (t : Term) (secret : List ℕ) (n : ℕ) → ((signature tag : List ℕ) → require_within_limit (message_by m (with_signature (content_by m (says.Commit commit)) signature tag)) ≡ Err n) → send_commit c m carried commit e t secret ≡ Err n
 unfolding send_commit
 content_refused c m carried commit e t secret n h = rw (h _ _) refl
 
 abbrev sent_parts : List ℕ → Change → List ℕ → List ℕ → List ℕ → SentCommit
-sent_parts message change joiner epoch tag = record { message = message; change = change; joiner = joiner; epoch = epoch; tag = tag }
+sent_parts message change joiner epoch tag = record { message = message; change = change; joiner = joiner; epoch_secret = epoch; tag = tag }
 
 -- its parts, one after the other, as a speaker makes them
 module _ (c : Crypto) (m : Member) (s : Speaker) (carried : List Extension) (commit : Commit) (e : Edits) (t : Term) (secret : List ℕ) (speaks : Speaks m s) (said : FramedContent) (said_is : said ≡ content_by m (says.Commit commit))
@@ -72,15 +70,15 @@ module _ (c : Crypto) (m : Member) (s : Speaker) (carried : List Extension) (com
     (change : Change) (change_is : change ≡ change_of s.group.now carried e t bytes signed) (joiner epoch tag : List ℕ) (joiner_is : joiner ≡ joiner_secret (init_secret s.epoch.now) secret (group_context.spell change.context))
     (epoch_is : epoch ≡ epoch_secret joiner (group_context.spell change.context)) (tag_is : tag ≡ confirmation_tag epoch change.context.confirmed_transcript_hash) where
   abbrev message_of : List ℕ
-  message_of = message_by m (signed_with said signature tag)
+  message_of = message_by m (with_signature said signature tag)
 
   change_as : change ≡ change_of m.public carried e t (framed_content.spell said) signature
   change_as = change_is ∙ (rw (bytes_are, signed_is, ← speaks.public) refl)
 
-  joiner_as : joiner ≡ joiner_secret (init_secret m.epoch) secret (group_context.spell change.context)
+  joiner_as : joiner ≡ joiner_secret (init_secret m.epoch_secret) secret (group_context.spell change.context)
   joiner_as = joiner_is ∙ ap (λ (l : List ℕ). joiner_secret (init_secret l) secret (group_context.spell change.context)) (sym speaks.epoch)
 
-  sent_is : send_commit c m carried commit e t secret ≡ (is_within_limit message_of >> Ok (sent_parts message_of change joiner epoch tag))
+  sent_is : send_commit c m carried commit e t secret ≡ (require_within_limit message_of >> Ok (sent_parts message_of change joiner epoch tag))
   unfolding send_commit
   sent_is = let a = change_as in let b = joiner_as in cc
 
@@ -89,7 +87,7 @@ module _ (c : Crypto) (m : Member) (s : Speaker) (carried : List Extension) (com
 
   pub sent_done : (message : List ℕ) → limited_text message_of ≡ Ok message → send_commit c m carried commit e t secret ≡ Ok (sent_parts message change joiner epoch tag)
   sent_done message h =
-      let two = then_ok (is_within_limit message_of) (Ok message_of) message h in
+      let two = then_ok (require_within_limit message_of) (Ok message_of) message h in
       let same : message_of ≡ message = cc in
       sent_is ∙ ap (λ (r : Result Passed ℕ). r >> Ok (sent_parts message_of change joiner epoch tag)) two.0 ∙ ap (λ (l : List ℕ). Ok (sent_parts l change joiner epoch tag)) same
 
@@ -105,7 +103,7 @@ module _ (p : PublicState) (carried : List Extension) (e : Edits) (t : Term) (sa
 
 -- a member with the parts of a speaker
 abbrev pub speaking : Speaker → Member
-speaking s = record { gone = false; public = s.group.now; epoch = s.epoch.now; keys = record { leaf = s.leaf; own = []; above = [] }; signing = s.signing.now; kept = []; pending = None }
+speaking s = record { gone = false; public = s.group.now; epoch_secret = s.epoch.now; keys = record { leaf = s.leaf; own = []; above = [] }; signing = s.signing.now; kept = []; pending = None }
 
 pub speaking_is : (s : Speaker) → Speaks (speaking s) s
 speaking_is s = record { public = refl; epoch = refl; leaf = refl; signing = refl }
@@ -132,7 +130,7 @@ module _ (c : Crypto) (m : Member) (list : List ProposalOrRef) (used : List Used
 
   of_change : commit_from_change c m said signature used e made seed change ≡ (send_commit c m (carried_after m used) (commit_of list made) e t made.climb.secret >>= with_welcome c m used made seed)
   unfolding commit_from_change send_commit with_welcome change_of
-  of_change = sym (in_two (is_within_limit _) _ _)
+  of_change = sym (in_two (require_within_limit _) _ _)
 
   in_steps : change_after_edits c m.public m.keys.leaf used (commit_of list made) said signature e ≡ Ok change → commit_from_path c m list used e made seed ≡ (send_commit c m (carried_after m used) (commit_of list made) e t made.climb.secret >>= with_welcome c m used made seed)
   unfolding commit_from_path
@@ -171,7 +169,7 @@ welcome_is c m change made joiner tag seed [] = refl
 welcome_is c m change made joiner tag seed (x ∷ xs) = refl
 
 abbrev made_so : SentCommit → Option (List ℕ) → PublicState → PrivateKeys → Made
-made_so s welcome p keys = record { commit = s.message; welcome = welcome; pending = record { message = s.message; public = p; epoch = s.epoch; keys = keys } }
+made_so s welcome p keys = record { commit = s.message; welcome = welcome; pending = record { message = s.message; public = p; epoch_secret = s.epoch_secret; keys = keys } }
 
 if_fails : (c : Crypto) (m : Member) (used : List Used) (made : MadePath) (seed : List ℕ) (s : SentCommit) (n : ℕ) → welcome_if c m s.change made s.joiner s.tag seed (zip (adds used) s.change.edits.added) ≡ Err n → with_welcome c m used made seed s ≡ Err n
 unfolding with_welcome

@@ -1,5 +1,4 @@
 pub mod Faults
-pub mod CommitSteps
 pub mod TwoSteps
 pub mod OwnPath
 pub mod LongList

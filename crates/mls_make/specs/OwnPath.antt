@@ -14,29 +14,33 @@ use Rattle.mls_treekem.specs.Secrets.{AreOfChain}
 use Rattle.mls_treekem.specs.declared.secrets.PathSecrets.{PathSecrets}
 use Rattle.mls_model.specs.PublicState.{Used}
 use Rattle.mls_model.specs.Commit.{Edits, apply_proposals, apply_path_if}
-use Rattle.mls_model.specs.Make.{MadePath, no_path}
+use Rattle.mls_model.specs.Make.{MadePath, no_path, path_if_needed, path_with}
 use Rattle.mls_model.specs.Member.{Member}
 use Rattle.mls_public_group.specs.Short.{AreBelow, HasLeavesBelow, IsBelow}
 use Rattle.mls_message.specs.Speaks.{Speaks}
 use Rattle.mls_message.specs.declared.speaker.Speaker.{Speaker}
-use Rattle.mls_make.specs.CommitSteps.{path_if_needed, path_with}
 use Rattle.mls_make.specs.Faults.{number_of}
 use Rattle.mls_make.specs.declared.error.MakeError.{MakeError}
 use Rattle.mls_make.specs.declared.own_path.OwnPath.{OwnPath}
 
 -- a path or none, with the commit secret and the committer's keys
 abbrev pub made_own_path : OwnPath → MadePath
-made_own_path o = record { path = o.path; climb = record { secret = o.commit_secret; keys = all_keys o.keys } }
+made_own_path o =
+    record { path = o.path; climb = record { secret = o.commit_secret; keys = all_keys o.keys } }
 
 -- the secrets of a path of leaf i are there just where the path is, and are those of the seed's chain
-abbrev pub HaveSecrets : Crypto → ℕ → Edits → List ℕ → Option UpdatePath → Option PathSecrets → Type 0
+abbrev pub HaveSecrets : Crypto → ℕ → Edits → List ℕ → Option UpdatePath → Option PathSecrets →
+    Type 0
 HaveSecrets c i e seed None None = Unit {0}
 HaveSecrets c i e seed None (Some s) = ⊥
 HaveSecrets c i e seed (Some path) None = ⊥
-HaveSecrets c i e seed (Some path) (Some s) = AreOfChain c (path_seed seed) (path_length 0 e.tree i) s
+HaveSecrets c i e seed (Some path) (Some s) =
+    AreOfChain c (path_seed seed) (path_length 0 e.tree i) s
 
 -- what a member made of a path for a commit with these edits, its secrets and the committer's keys
-pub record IsOwn (c : Crypto) (m : Member) (used : List Used) (e : Edits) (wants : Bool) (seed : List ℕ) (made : MadePath) (secrets : Option PathSecrets) (keys : PrivateKeys) : Type 0 where
+pub record IsOwn (c : Crypto) (m : Member) (used : List Used) (e : Edits) (wants : Bool)
+    (seed : List ℕ) (made : MadePath) (secrets : Option PathSecrets) (keys : PrivateKeys)
+    : Type 0 where
   pub edits : apply_proposals c m.public m.keys.leaf used ≡ Ok e
   pub path : path_if_needed c m e used wants seed ≡ Ok made
   pub sends : HaveSecrets c m.keys.leaf e seed made.path secrets
@@ -44,7 +48,8 @@ pub record IsOwn (c : Crypto) (m : Member) (used : List Used) (e : Edits) (wants
   pub leaf : keys.leaf ≡ m.keys.leaf
 
 -- what a member made of a path, all of it together, with the tree that each member makes of the path
-pub record IsOwnPath (c : Crypto) (m : Member) (used : List Used) (e : Edits) (wants : Bool) (seed : List ℕ) (o : OwnPath) : Type 0 where
+pub record IsOwnPath (c : Crypto) (m : Member) (used : List Used) (e : Edits) (wants : Bool)
+    (seed : List ℕ) (o : OwnPath) : Type 0 where
   pub own : IsOwn c m used e wants seed (made_own_path o) o.secrets o.keys
   pub merges : apply_path_if c m.public m.keys.leaf e o.path ≡ Ok (term o.tree)
 
@@ -54,9 +59,11 @@ IsNoPath keys e o = (m : Member) → m.keys ≡ keys → made_own_path o ≡ no_
 
 -- The call makes a path of the speaker for a commit with these extensions, where one is wanted or required, or refuses
 -- with the number of the first check that fails, memory aside.
-abbrev pub MakesPath : Crypto → Speaker → PrivateKeys → List Extension → Edits → List Used → Bool → List ℕ → Result OwnPath MakeError → Type 0
+abbrev pub MakesPath : Crypto → Speaker → PrivateKeys → List Extension → Edits → List Used → Bool →
+    List ℕ → Result OwnPath MakeError → Type 0
 MakesPath c s keys carried e used wants seed result =
-    (m : Member) → Speaks m s → m.keys ≡ keys → Answers made_own_path number_of (path_with c m carried e used wants seed) result
+    (m : Member) → Speaks m s → m.keys ≡ keys →
+    Answers made_own_path number_of (path_with c m carried e used wants seed) result
 
 -- the keys are of the speaker's leaf, if those before were
 abbrev pub KeepsLeaf : Speaker → PrivateKeys → OwnPath → Type 0
@@ -73,9 +80,11 @@ IsMerged c s e o = apply_path_if c s.group.now s.leaf e o.path ≡ Ok (term o.tr
 -- the leaves of the tree with the path are below each bound that those of this tree and the path's leaf are below
 abbrev pub StaysShort : Term → OwnPath → Type 0
 StaysShort t o =
-    (n : ℕ) → HasLeavesBelow n t → IfSome o.path (λ p. IsBelow n leaf_node p.leaf_node) → HasLeavesBelow n (term o.tree)
+    (n : ℕ) → HasLeavesBelow n t → IfSome o.path (λ p. IsBelow n leaf_node p.leaf_node) →
+    HasLeavesBelow n (term o.tree)
 
 -- where the proposals and the path's leaf are as short as those of a group, the leaves of the tree with the path are
 abbrev pub IsShortWith : List Used → OwnPath → Type 0
 IsShortWith used o =
-    AreBelow (2 ^ 27) used → IfSome o.path (λ p. IsBelow (2 ^ 27) leaf_node p.leaf_node) → HasLeavesBelow (2 ^ 27) (term o.tree)
+    AreBelow (2 ^ 27) used → IfSome o.path (λ p. IsBelow (2 ^ 27) leaf_node p.leaf_node) →
+    HasLeavesBelow (2 ^ 27) (term o.tree)

@@ -12,7 +12,7 @@ ghost use Rattle.mls_make.specs.TwoSteps.{WelcomesFrom};
 use crate::error::MakeError;
 use crate::new_commit::NewCommit;
 use crate::send_commit::SentCommit;
-use mls_commit::Change;
+use mls_commit::Outcome;
 use mls_kdf::{Secret, Seed};
 use mls_message::Speaker;
 use mls_public_group::{PublicGroup, Used};
@@ -32,18 +32,19 @@ pub(crate) fn path_seals(path: &Option<UpdatePath>) -> u32
     }
 }
 
-/// Each of those whom a change adds, with its leaf and the path secret that it is sent.
+/// Each of those whom a commit adds, with its leaf and the path secret that it is sent.
 fn joiners_in<'a>(
     alloc: Global,
     used: &[Used<'a>],
-    change: &Change,
+    outcome: &Outcome,
     committer: u32,
     secrets: Option<&'a PathSecrets>,
 ) -> Result<Vec<Joiner<'a>>, OutOfMemory>
-    ensures places { IfOk result (λ v. HavePlaces used.now change.now.edits v.items) }
-    ensures sent { IfOk result (λ v. AreSentBy change.now.edits committer secrets.entry v.items) }
+    ensures places { IfOk result (λ v. HavePlaces used.now outcome.now.change.edits v.items) }
+    ensures sent { IfOk result
+        (λ v. AreSentBy outcome.now.change.edits committer secrets.entry v.items) }
 {
-    joiners_of(alloc, used, &change.edits, committer, secrets)
+    joiners_of(alloc, used, &outcome.edits, committer, secrets)
 }
 
 /// The message of a Welcome to a group for its joiners, where there are any, from the speaker (RFC 9420, 12.4.3.1).
@@ -94,20 +95,21 @@ pub(crate) fn with_welcome<S: Suite>(
     seed: &Seed,
 ) -> Result<NewCommit, MakeError>
     requires used { AreBelow (2 ^ 28) used.now }
-    requires leaves { HasLeavesBelow (2 ^ 27) sent.change.tree }
-    requires seals { first_seal + length (zip (adds used.now) sent.change.edits.added) < 2 ^ 32 }
+    requires leaves { HasLeavesBelow (2 ^ 27) sent.outcome.change.tree }
+    requires seals { first_seal + length (zip (adds used.now) sent.outcome.change.edits.added)
+        < 2 ^ 32 }
     ensures { AddsWelcome S.crypto speaker.now used.now sent secrets.entry
         keys first_seal seed.now result }
 {
     let SentCommit {
         message,
-        change,
+        outcome,
         joiner,
         epoch,
         tag,
     } = sent;
-    let joiners = joiners_in(alloc, used, &change, speaker.leaf, secrets)?;
-    let group = change.into_public(alloc, &tag)?;
+    let joiners = joiners_in(alloc, used, &outcome, speaker.leaf, secrets)?;
+    let group = outcome.into_public(alloc, &tag)?;
     let welcome = welcome_from::<S>(
         alloc, speaker, &group, &tag, &joiner, &joiners, seed, first_seal,
     )?;

@@ -56,7 +56,7 @@ fn no_path(keys: &PrivatePath, edits: &Edits) -> Result<OwnPath, OutOfMemory>
 }
 
 /// A path for a commit with these extensions, where one is wanted or required, else none (RFC 9420, 12.4.1).
-#[tactic(auto, unfolding(crate::specs::CommitSteps::path_with, mls_model::specs::Commit::apply_path_if))]
+#[tactic(auto, unfolding(mls_model::specs::Make::path_with, mls_model::specs::Commit::apply_path_if))]
 pub(crate) fn own_path<S: Suite>(
     alloc: Global,
     speaker: &Speaker<'_>,

@@ -5,7 +5,7 @@ ghost use Rattle.mls_leaf.specs.GroupExtensions.{group_extensions};
 ghost use Rattle.mls_leaf.specs.Limits.{input_limit};
 ghost use Rattle.mls_types.specs.Commit.{commit as commit_format};
 ghost use Rattle.mls_types.specs.Content.{content as content_format};
-ghost use Rattle.mls_types.specs.SignedParts.{signed_with};
+ghost use Rattle.mls_types.specs.SignedParts.{with_signature};
 ghost use Rattle.mls_types.specs.declared.content.Content.TheVariants as says;
 ghost use Rattle.mls_tree.specs.Tree.{term};
 ghost use Rattle.mls_public_group.specs.MessageLimit.{FitsIfShort};
@@ -14,7 +14,7 @@ ghost use Rattle.mls_make.specs.TwoSteps.{HasChange, HasJoiner, IsShortCommit, S
 ghost use Rattle.mls_message.specs.Sending.{Sends, Signs};
 
 use crate::error::MakeError;
-use mls_commit::Change;
+use mls_commit::Outcome;
 use mls_kdf::Secret;
 use mls_leaf::{GroupExtensions, LeafError};
 use mls_message::{Framed, Speaker, send, sign};
@@ -30,8 +30,8 @@ use std::alloc::Global;
 pub(crate) struct SentCommit {
     /// Its message.
     pub(crate) message: Vec<u8>,
-    /// What it makes of the public state.
-    pub(crate) change: Change,
+    /// Where it leads.
+    pub(crate) outcome: Outcome,
     /// The joiner secret of the epoch.
     pub(crate) joiner: Secret,
     /// The epoch.
@@ -48,25 +48,21 @@ struct Begun {
     tag: Secret,
 }
 
-/// The epoch that a change begins behind the speaker's, by its commit secret (RFC 9420, 8).
+/// The epoch that a commit begins behind the speaker's, by its commit secret (RFC 9420, 8).
 #[tactic(auto, unfolding(mls_schedule::specs::Epoch::next_epoch_secret))]
 fn next_epoch(
     alloc: Global,
     speaker: &Speaker<'_>,
     commit_secret: &Secret,
-    change: &Change,
+    outcome: &Outcome,
 ) -> Result<Begun, OutOfMemory>
-    ensures joiner { IfOk result (HasJoiner speaker.now commit_secret.now change.now) }
-    ensures epoch { IfOk result (λ b. b.epoch ≡ epoch_of b.joiner change.now) }
-    ensures tag { IfOk result (λ b. b.tag ≡ tag_of b.epoch change.now) }
+    ensures joiner { IfOk result (HasJoiner speaker.now commit_secret.now outcome.now.change) }
+    ensures epoch { IfOk result (λ b. b.epoch ≡ epoch_of b.joiner outcome.now.change) }
+    ensures tag { IfOk result (λ b. b.tag ≡ tag_of b.epoch outcome.now.change) }
 {
-    let context = &change.context;
+    let context = &outcome.context;
     let spelled = context_spelling(alloc, context)?;
-    let Start { joiner, epoch, .. } = Epoch::next(
-        speaker.epoch.init_secret(),
-        commit_secret,
-        &spelled,
-    );
+    let Start { joiner, epoch } = Epoch::next(speaker.epoch.init_secret(), commit_secret, &spelled);
     let tag = epoch.confirmation_tag(context.confirmed_transcript_hash.as_slice());
     Ok(Begun { joiner, epoch, tag })
 }
@@ -81,7 +77,8 @@ fn message_with_tag(
     tag: &Secret,
 ) -> Result<Vec<u8>, LeafError>
     requires { length signature.items < 2 ^ 30 }
-    ensures { Sends speaker.now (λ v. v.items) (signed_with framed signature.items tag.now) result }
+    ensures { Sends speaker.now (λ v. v.items) (with_signature framed signature.items tag.now)
+        result }
 {
     let tag = Vec::from_slice(alloc, tag)?;
     let signed = framed.with_signature(signature, tag);
@@ -92,12 +89,12 @@ fn message_with_tag(
 #[derive(Drop)]
 struct Draft {
     signature: Vec<u8>,
-    change: Change,
+    outcome: Outcome,
     begun: Begun,
 }
 
-/// The signature of a content, the change that it makes with these extensions, these edits and this tree, and the epoch
-/// that it begins.
+/// The signature of a content, where it leads with these extensions, these edits and this tree, and the epoch that it
+/// begins.
 fn draft_commit<S: Suite>(
     alloc: Global,
     speaker: &Speaker<'_>,
@@ -112,12 +109,13 @@ fn draft_commit<S: Suite>(
     ensures signature { IfOk result (λ d. Signs S.crypto speaker.now framed.now d.signature.items) }
     ensures short { IfOk result (λ d. length d.signature.items < 2 ^ 16) }
     ensures change { IfOk result (HasChange speaker.now extensions.now edits tree framed.now) }
-    ensures joiner { IfOk result (λ d. HasJoiner speaker.now commit_secret.now d.change d.begun) }
-    ensures epoch { IfOk result (λ d. d.begun.epoch ≡ epoch_of d.begun.joiner d.change) }
-    ensures tag { IfOk result (λ d. d.begun.tag ≡ tag_of d.begun.epoch d.change) }
+    ensures joiner { IfOk result
+        (λ d. HasJoiner speaker.now commit_secret.now d.outcome.change d.begun) }
+    ensures epoch { IfOk result (λ d. d.begun.epoch ≡ epoch_of d.begun.joiner d.outcome.change) }
+    ensures tag { IfOk result (λ d. d.begun.tag ≡ tag_of d.begun.epoch d.outcome.change) }
 {
     let signature = sign::<S>(alloc, speaker, framed)?;
-    let change = Change::new(
+    let outcome = Outcome::with_tree(
         alloc,
         speaker.group,
         extensions,
@@ -126,10 +124,10 @@ fn draft_commit<S: Suite>(
         framed.bytes(),
         &signature,
     )?;
-    let begun = next_epoch(alloc, speaker, commit_secret, &change)?;
+    let begun = next_epoch(alloc, speaker, commit_secret, &outcome)?;
     Ok(Draft {
         signature,
-        change,
+        outcome,
         begun,
     })
 }
@@ -159,8 +157,8 @@ pub(crate) fn send_commit<S: Suite>(
     ensures answer { SendsCommit S.crypto speaker.now extensions.now commit edits tree
         commit_secret.now result }
     ensures short { IfOk result (λ _. length (commit_format.spell commit) ≤ input_limit) }
-    ensures edits { IfOk result (λ s. s.change.edits ≡ edits) }
-    ensures tree { IfOk result (λ s. s.change.tree ≡ term tree) }
+    ensures edits { IfOk result (λ s. s.outcome.change.edits ≡ edits) }
+    ensures tree { IfOk result (λ s. s.outcome.change.tree ≡ term tree) }
 {
     let framed = Framed::new(alloc, speaker, Content::Commit(commit))?;
     know_short_commit(&framed, speaker);
@@ -175,13 +173,13 @@ pub(crate) fn send_commit<S: Suite>(
     )?;
     let Draft {
         signature,
-        change,
+        outcome,
         begun,
     } = draft;
     let message = message_with_tag(alloc, speaker, framed, signature, &begun.tag)?;
     Ok(SentCommit {
         message,
-        change,
+        outcome,
         joiner: begun.joiner,
         epoch: begun.epoch,
         tag: begun.tag,

@@ -25,7 +25,7 @@ use Rattle.mls_types.specs.declared.update_path.UpdatePath.{UpdatePath}
 use Rattle.mls_types.specs.declared.content.FramedContent.{FramedContent}
 use Rattle.mls_treekem_model.specs.Keys.{Keys, PrivateKeys}
 use Rattle.mls_treekem_model.specs.Make.{climb_to}
-use Rattle.mls_types.specs.SignedParts.{framed}
+use Rattle.mls_types.specs.SignedParts.{framed_content_of}
 use Rattle.mls_types.specs.declared.commit.Commit.{Commit}
 use Rattle.mls_types.specs.declared.commit.ProposalOrRef.{ProposalOrRef}
 use Rattle.mls_types.specs.declared.signed.SignedContent.{SignedContent}
@@ -36,11 +36,11 @@ use Rattle.mls_model.specs.Proposals.{removed_leaves}
 use Rattle.mls_model.specs.Commit.{Change, change_of_commit, public_with}
 use Rattle.mls_model.specs.Member.{Member, find_proposals, with_keys, follow_edits, with_epoch, after_removal}
 use Rattle.mls_model.specs.Messages.{sender_leaf}
-use Rattle.mls_model.specs.Verdict.{commit_verdict, open_path_secret, enter_epoch}
+use Rattle.mls_model.specs.Verdict.{commit_verdict, open_path_secret, enter_epoch, enter_epoch_with}
 use Rattle.mls_model.proofs.KeyLaws.{with_all_keys}
 use Rattle.mls_member.specs.declared.error.Refusal.{Refusal}
 use Rattle.mls_member.specs.Faults.{number_of}
-use Rattle.mls_member.specs.Process.{check_commit, after_change, follow_commit, edited_keys, enter_epoch_with, removes_leaf}
+use Rattle.mls_member.specs.Process.{check_commit, after_change, follow_commit, edited_keys, removes_leaf}
 use Rattle.mls_member.proofs.Uses.{any_removes}
 
 -- ---- private keys
@@ -65,9 +65,9 @@ then_change (Ok used) rb leaf later = by_body (rb used)
     by_body (Ok change) = ap (λ (b : Bool). later (change, b)) (any_removes used leaf)
 
 commit_is : (c : Crypto) (m : Member) (v : SignedContent) (k : Commit) (tag : List ℕ) (committer : ℕ) (signature : List ℕ) → nat_lt m.public.context.epoch (2 ^ 64 - 1) ≡ true → committer ≡ sender_leaf v.sender → signature ≡ v.signature
-    → commit_verdict c m v k tag ≡ (check_commit c m committer k (framed v) signature >>= after_change c m committer k tag)
+    → commit_verdict c m v k tag ≡ (check_commit c m committer k (framed_content_of v) signature >>= after_change c m committer k tag)
 unfolding commit_verdict check_commit after_change
-commit_is c m v k tag committer signature e s g = rw (e, s, g) (sym (then_change (find_proposals m.kept (sender_leaf v.sender) k.proposals) (λ used. change_of_commit c m.public (sender_leaf v.sender) used k (framed v) v.signature) m.keys.leaf (after_change c m (sender_leaf v.sender) k tag)))
+commit_is c m v k tag committer signature e s g = rw (e, s, g) (sym (then_change (find_proposals m.kept (sender_leaf v.sender) k.proposals) (λ used. change_of_commit c m.public (sender_leaf v.sender) used k (framed_content_of v) v.signature) m.keys.leaf (after_change c m (sender_leaf v.sender) k tag)))
 
 pub last_epoch : (c : Crypto) (m : Member) (v : SignedContent) (k : Commit) (tag : List ℕ) → nat_lt m.public.context.epoch (2 ^ 64 - 1) ≡ false → commit_verdict c m v k tag ≡ Err 66
 unfolding commit_verdict
@@ -93,7 +93,7 @@ unfolding with_epoch
 advanced_as m n p epoch keys gone signing public = rw (gone, signing, public) refl
 
 pub enters : (m n new : Member) (change : Change) (secret : List ℕ) (keys : PrivateKeys) (tag epoch : List ℕ) (effect : Effect) → n.gone ≡ m.gone → n.signing ≡ m.signing → n.public ≡ public_with change tag → new ≡ with_epoch n n.public epoch keys → effect ≡ Advanced n.public.context.epoch
-    → epoch ≡ next_epoch_secret (init_secret m.epoch) secret (group_context.spell change.context) → bytes_eq tag (confirmation_tag epoch change.context.confirmed_transcript_hash) ≡ true → enter_epoch_with m change secret keys tag ≡ Ok (effect, new)
+    → epoch ≡ next_epoch_secret (init_secret m.epoch_secret) secret (group_context.spell change.context) → bytes_eq tag (confirmation_tag epoch change.context.confirmed_transcript_hash) ≡ true → enter_epoch_with m change secret keys tag ≡ Ok (effect, new)
 unfolding enter_epoch_with public_with
 enters m n new change secret keys tag epoch effect gone signing public made told next right =
     let state = made ∙ advanced_as m n (public_with change tag) epoch keys gone signing public in
@@ -147,8 +147,8 @@ tag_is None (body_of.Commit k2 tag2) k tag seen shows e h = absurd shows
 tag_is (Some t) (body_of.Commit k2 tag2) k tag seen shows e h = let same : tag2 ≡ tag = cc in h ∙ shows ∙ same
 
 pub commit_does : (c : Crypto) (m new : Member) (v : SignedContent) (k mine : Commit) (tag seen : List ℕ) (committer : ℕ) (signature : List ℕ) (result : Result Effect Refusal) → nat_lt m.public.context.epoch (2 ^ 64 - 1) ≡ true → committer ≡ sender_leaf v.sender → signature ≡ v.signature → mine ≡ k → seen ≡ tag
-    → Does (follow_commit c m committer mine (framed v) signature seen) m new result → Does (commit_verdict c m v k tag) m new result
+    → Does (follow_commit c m committer mine (framed_content_of v) signature seen) m new result → Does (commit_verdict c m v k tag) m new result
 commit_does c m new v k mine tag seen committer signature result e s g same t does =
     subst (λ (r : Result (Effect × Member) ℕ). Does r m new result) (sym (commit_is c m v k tag committer signature e s g))
-    (subst (λ (x : Commit). Does (follow_commit c m committer x (framed v) signature tag) m new result) same
-    (subst (λ (l : List ℕ). Does (follow_commit c m committer mine (framed v) signature l) m new result) t does))
+    (subst (λ (x : Commit). Does (follow_commit c m committer x (framed_content_of v) signature tag) m new result) same
+    (subst (λ (l : List ℕ). Does (follow_commit c m committer mine (framed_content_of v) signature l) m new result) t does))

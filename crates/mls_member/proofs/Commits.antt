@@ -5,10 +5,9 @@ use Rattle.mls_wire.specs.Checks.{require, ◌>>◌, DoesAs}
 use Rattle.mls_wire.specs.Reading.{◌>>=◌}
 use Rattle.mls_types.specs.declared.commit.ProposalOrRef.{ProposalOrRef}
 use Rattle.mls_suite.specs.Crypto.{Crypto}
-use Rattle.mls_model.specs.Make.{Made, make, commit_call}
+use Rattle.mls_model.specs.Make.{Made, make, commit_call, path_with, commit_from_change, commit_from_path, commit_from_proposals}
 use Rattle.mls_model.specs.PublicState.{Used}
 use Rattle.mls_model.specs.Member.{Member, find_proposals}
-use Rattle.mls_make.specs.CommitSteps.{path_with, commit_from_change, commit_from_path, commit_from_proposals}
 use Rattle.mls_member.specs.declared.error.Refusal.{Refusal}
 use Rattle.mls_member.specs.Faults.{number_of}
 use Rattle.mls_member.specs.Committing.{made_of_list, keep_pending}

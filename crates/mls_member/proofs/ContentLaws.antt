@@ -4,8 +4,9 @@ use Rattle.std.specs.Prelude.{◌≢◌}
 use Rattle.mls_wire.specs.Checks.{Passed, passed, DoesAs, ◌>>◌}
 use Rattle.mls_wire.specs.Combine.{vector, optional}
 use Rattle.mls_wire.specs.Format.{IsBytes}
+use Rattle.mls_wire.specs.Whole.{whole}
 use Rattle.mls_leaf.specs.declared.proposal.Proposal.{Proposal}
-use Rattle.mls_leaf.specs.Faults.{Spells, whole}
+use Rattle.mls_leaf.specs.Faults.{Spells}
 use Rattle.mls_leaf.specs.Limits.{input_limit}
 use Rattle.mls_leaf.specs.Proposal.{proposal as proposal_format}
 use Rattle.mls_types.specs.UpdatePath.{update_path}
@@ -31,10 +32,10 @@ use Rattle.mls_view.specs.Views.{LendsAll}
 use Rattle.mls_model.specs.declared.effect.Effect.{Effect}
 use Rattle.mls_model.specs.Member.{Member}
 use Rattle.mls_model.specs.Messages.{decode_message}
-use Rattle.mls_model.specs.Verdict.{framing_checks, content_verdict, proposal_verdict, commit_verdict, bytes_verdict}
+use Rattle.mls_model.specs.Verdict.{framing_checks, content_verdict, proposal_verdict, commit_verdict, bytes_verdict, message_verdict}
 use Rattle.mls_member.specs.declared.error.Refusal.{Refusal}
 use Rattle.mls_member.specs.Faults.{number_of}
-use Rattle.mls_member.specs.Process.{IsShortView, message_verdict, outer_checks, sender_of}
+use Rattle.mls_member.specs.Process.{IsShortView, message_outer_checks, sender_of}
 use Rattle.mls_member.proofs.LengthLaws.{short_lent}
 
 -- ---- by content
@@ -111,13 +112,13 @@ unfolding bytes_verdict decode_message
 public_does c m bytes view new result p h = rw p.is_read (h p.shown p.shows)
 
 pub public_outright : (m : Member) (bytes : List ℕ) (view : PublicMessageView) (result : Result Effect Refusal) → IsPublic bytes view
-    → ((shown : PublicMessage) → ShowsPublic view shown → RefusesOutright number_of (sender_of m shown) result) → RefusesOutright number_of (outer_checks m bytes) result
-unfolding outer_checks decode_message
+    → ((shown : PublicMessage) → ShowsPublic view shown → RefusesOutright number_of (sender_of m shown) result) → RefusesOutright number_of (message_outer_checks m bytes) result
+unfolding message_outer_checks decode_message
 public_outright m bytes view result p h = rw p.is_read (h p.shown p.shows)
 
 -- another message
-other_message : (c : Crypto) (m : Member) (bytes : List ℕ) (view : MessageView) (value : MlsMessage) → whole mls_message input_limit bytes ≡ Ok value → Shows view value → ((x : PublicMessageView) → view ≢ views.PublicMessage x) → (bytes_verdict c m bytes ≡ Err 41) × (outer_checks m bytes ≡ Err 41)
-unfolding bytes_verdict outer_checks decode_message
+other_message : (c : Crypto) (m : Member) (bytes : List ℕ) (view : MessageView) (value : MlsMessage) → whole mls_message input_limit bytes ≡ Ok value → Shows view value → ((x : PublicMessageView) → view ≢ views.PublicMessage x) → (bytes_verdict c m bytes ≡ Err 41) × (message_outer_checks m bytes ≡ Err 41)
+unfolding bytes_verdict message_outer_checks decode_message
 other_message c m bytes (views.PublicMessage x) value e shows none = absurd (none x refl)
 other_message c m bytes (views.Welcome x) (message_of.PublicMessage v) e shows none = absurd shows
 other_message c m bytes (views.GroupInfo x) (message_of.PublicMessage v) e shows none = absurd shows
@@ -126,10 +127,10 @@ other_message c m bytes view (message_of.Welcome v) e shows none = (rw e refl, r
 other_message c m bytes view (message_of.GroupInfo v) e shows none = (rw e refl, rw e refl)
 other_message c m bytes view (message_of.KeyPackage v) e shows none = (rw e refl, rw e refl)
 
-pub other_of : (c : Crypto) (m : Member) (bytes : List ℕ) (view : MessageView) → LendsAll mls_message input_limit Shows bytes view → ((x : PublicMessageView) → view ≢ views.PublicMessage x) → (bytes_verdict c m bytes ≡ Err 41) × (outer_checks m bytes ≡ Err 41)
+pub other_of : (c : Crypto) (m : Member) (bytes : List ℕ) (view : MessageView) → LendsAll mls_message input_limit Shows bytes view → ((x : PublicMessageView) → view ≢ views.PublicMessage x) → (bytes_verdict c m bytes ≡ Err 41) × (message_outer_checks m bytes ≡ Err 41)
 other_of c m bytes view lends none = other_message c m bytes view lends.value lends.is_read lends.shows none
 
 -- bytes that are no message
-pub no_message : (c : Crypto) (m : Member) (bytes : List ℕ) (n : ℕ) → whole mls_message input_limit bytes ≡ Err n → (bytes_verdict c m bytes ≡ Err n) × (outer_checks m bytes ≡ Err n)
-unfolding bytes_verdict outer_checks decode_message
+pub no_message : (c : Crypto) (m : Member) (bytes : List ℕ) (n : ℕ) → whole mls_message input_limit bytes ≡ Err n → (bytes_verdict c m bytes ≡ Err n) × (message_outer_checks m bytes ≡ Err n)
+unfolding bytes_verdict message_outer_checks decode_message
 no_message c m bytes n e = (rw e refl, rw e refl)

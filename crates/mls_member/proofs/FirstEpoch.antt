@@ -22,7 +22,7 @@ use Rattle.mls_treekem_model.specs.Keys.{Keys, PrivateKeys, all_keys}
 use Rattle.mls_model.specs.Member.{Member, KeptProposal}
 use Rattle.mls_model.specs.PublicState.{PublicState}
 use Rattle.mls_member.specs.FirstEpoch.{first_public}
-use Rattle.mls_model.specs.Messages.{is_within_limit}
+use Rattle.mls_model.specs.Messages.{require_within_limit}
 use Rattle.mls_public_group.proofs.Lengths.{first_within, last_within}
 use Rattle.mls_public_group.proofs.Limits.{past_limit}
 
@@ -41,7 +41,7 @@ first_spelled : (c : Crypto) (group : List ℕ) (t : Term) → (rest : List ℕ)
 unfolding first_context group_context
 first_spelled c group t = (_, refl)
 
-pub first_long : (c : Crypto) (group : List ℕ) (t : Term) → input_limit < length group → is_within_limit (group_context.spell (first_context c group t)) ≡ Err 6
+pub first_long : (c : Crypto) (group : List ℕ) (t : Term) → input_limit < length group → require_within_limit (group_context.spell (first_context c group t)) ≡ Err 6
 first_long c group t lt =
     let s = first_spelled c group t in
     past_limit (group_context.spell (first_context c group t))
@@ -66,23 +66,23 @@ pub public_long : (c : Crypto) (leaf : LeafNode) (group epoch : List ℕ) → in
 unfolding first_public
 public_long c leaf group epoch lt = rw (first_long c group (Leaf (Some leaf)) lt) refl
 
-pub public_refused : (c : Crypto) (leaf : LeafNode) (group epoch : List ℕ) (x : GroupContext) (bytes : List ℕ) (n : ℕ) → x ≡ first_context c group (Leaf (Some leaf)) → bytes ≡ group_context.spell x → is_within_limit bytes ≡ Err n → first_public c leaf group epoch ≡ Err n
+pub public_refused : (c : Crypto) (leaf : LeafNode) (group epoch : List ℕ) (x : GroupContext) (bytes : List ℕ) (n : ℕ) → x ≡ first_context c group (Leaf (Some leaf)) → bytes ≡ group_context.spell x → require_within_limit bytes ≡ Err n → first_public c leaf group epoch ≡ Err n
 unfolding first_public
 public_refused c leaf group epoch x bytes n is spelled refused = rw (sym is, sym spelled, refused) refl
 
-pub public_made : (c : Crypto) (leaf : LeafNode) (group epoch : List ℕ) (x : GroupContext) (t : Term) (bytes : List ℕ) → x ≡ first_context c group (Leaf (Some leaf)) → t ≡ Leaf (Some leaf) → bytes ≡ group_context.spell x → is_within_limit bytes ≡ Ok passed →
+pub public_made : (c : Crypto) (leaf : LeafNode) (group epoch : List ℕ) (x : GroupContext) (t : Term) (bytes : List ℕ) → x ≡ first_context c group (Leaf (Some leaf)) → t ≡ Leaf (Some leaf) → bytes ≡ group_context.spell x → require_within_limit bytes ≡ Ok passed →
     first_public c leaf group epoch ≡ Ok (record { context = x; tree = t; interim = interim_hash [] (confirmation_tag epoch []) })
 unfolding first_public
 public_made c leaf group epoch x t bytes is tree spelled within = rw (sym is, sym tree, sym spelled, within) refl
 
 -- a creation is the public state of epoch 0 with the candidate's keys
 pub created_is : (c : Crypto) (k : Candidate) (group seed : List ℕ) →
-    create_group c k group seed ≡ (first_public c k.offered.leaf_node group seed >>= λ q. Ok (record { gone = false; public = q; epoch = seed; keys = record { leaf = 0; own = k.leaf; above = [] }; signing = k.signing; kept = []; pending = None }))
+    create_group c k group seed ≡ (first_public c k.offered.leaf_node group seed >>= λ q. Ok (record { gone = false; public = q; epoch_secret = seed; keys = record { leaf = 0; own = k.leaf; above = [] }; signing = k.signing; kept = []; pending = None }))
 unfolding create_group first_public
 created_is c k group seed =
-    after (is_within_limit (group_context.spell (first_context c group (Leaf (Some k.offered.leaf_node)))))
+    after (require_within_limit (group_context.spell (first_context c group (Leaf (Some k.offered.leaf_node)))))
     (record { context = first_context c group (Leaf (Some k.offered.leaf_node)); tree = Leaf (Some k.offered.leaf_node); interim = interim_hash [] (confirmation_tag seed []) })
-    (λ q. record { gone = false; public = q; epoch = seed; keys = record { leaf = 0; own = k.leaf; above = [] }; signing = k.signing; kept = []; pending = None })
+    (λ q. record { gone = false; public = q; epoch_secret = seed; keys = record { leaf = 0; own = k.leaf; above = [] }; signing = k.signing; kept = []; pending = None })
 
 -- a member with its leaf's key alone
 keys_alone : (own sk : List ℕ) (above : Keys) → above ++ (Some own ∷ []) ≡ Some sk ∷ [] → (above ≡ []) × (own ≡ sk)
@@ -91,7 +91,7 @@ keys_alone own sk (x ∷ xs) h = absurd (let l = ap length h in omega (arith, le
 
 pub created_made : (c : Crypto) (k : Candidate) (group seed : List ℕ) (leaf : LeafNode) (epoch own signing : List ℕ) (kept : List KeptProposal) (q : PublicState) (p : PrivateKeys) → leaf ≡ k.offered.leaf_node → epoch ≡ seed → own ≡ k.leaf → signing ≡ k.signing → kept ≡ [] →
     first_public c leaf group epoch ≡ Ok q → p.leaf ≡ 0 → all_keys p ≡ Some own ∷ [] →
-    create_group c k group seed ≡ Ok (record { gone = false; public = q; epoch = epoch; keys = p; signing = signing; kept = kept; pending = None })
+    create_group c k group seed ≡ Ok (record { gone = false; public = q; epoch_secret = epoch; keys = p; signing = signing; kept = kept; pending = None })
 created_made c k group seed leaf epoch own signing kept q p leaf_is epoch_is own_is signing_is kept_is made at keys =
     let alone = keys_alone p.own own p.above keys in
     let made' : first_public c k.offered.leaf_node group seed ≡ Ok q = rw (sym leaf_is, sym epoch_is) made in

@@ -41,7 +41,7 @@ use Rattle.mls_theorems.proofs.UnchangedMembers.{good_still}
 use Rattle.mls_make.specs.CommitCall.{AreShortUsed}
 use Rattle.mls_member.specs.declared.commit.Made.{Made}
 use Rattle.mls_member.specs.declared.error.Refusal.{Refusal}
-use Rattle.mls_member.specs.Answers.{messages_of, HasMade}
+use Rattle.mls_member.specs.Answers.{messages_of, ReachesAll}
 use Rattle.mls_member.specs.Faults.{number_of}
 use Rattle.mls_member.specs.FirstEpoch.{first_public}
 use Rattle.mls_member.specs.Proposing.{send_and_keep, updated_answer}
@@ -55,21 +55,21 @@ good_after c value defined m n (Err e) good keeps h = subst (IsGoodMember c) (sy
 -- ---- how members come about, and a drop
 
 pub create_good : (c : Crypto) (k : Candidate) (group seed : List ℕ) (leaf : LeafNode) (epoch own signing : List ℕ) (kept : List KeptProposal) (q : PublicState) (p : PrivateKeys) → leaf ≡ k.offered.leaf_node → epoch ≡ seed → own ≡ k.leaf → signing ≡ k.signing → kept ≡ [] →
-    first_public c leaf group epoch ≡ Ok q → p.leaf ≡ 0 → all_keys p ≡ Some own ∷ [] → IsGoodCandidate c k → IsGoodMember c (record { gone = false; public = q; epoch = epoch; keys = p; signing = signing; kept = kept; pending = None })
+    first_public c leaf group epoch ≡ Ok q → p.leaf ≡ 0 → all_keys p ≡ Some own ∷ [] → IsGoodCandidate c k → IsGoodMember c (record { gone = false; public = q; epoch_secret = epoch; keys = p; signing = signing; kept = kept; pending = None })
 create_good c k group seed leaf epoch own signing kept q p leaf_is epoch_is own_is signing_is kept_is made at keys good =
     created_good c k group seed _ good (created_made c k group seed leaf epoch own signing kept q p leaf_is epoch_is own_is signing_is kept_is made at keys)
 
 pub join_good : (c : Crypto) (k : Candidate) (bytes : List ℕ) (public : PublicState) (epoch : List ℕ) (keys : PrivateKeys) (info signing : List ℕ) (kept : List KeptProposal) → IsGoodCandidate c k →
-    join_verdict c k bytes ≡ Ok (record { member = record { gone = false; public = public; epoch = epoch; keys = keys; signing = k.signing; kept = []; pending = None }; info = info }) → signing ≡ k.signing → kept ≡ [] →
-    IsGoodMember c (record { gone = false; public = public; epoch = epoch; keys = keys; signing = signing; kept = kept; pending = None })
+    join_verdict c k bytes ≡ Ok (record { member = record { gone = false; public = public; epoch_secret = epoch; keys = keys; signing = k.signing; kept = []; pending = None }; info = info }) → signing ≡ k.signing → kept ≡ [] →
+    IsGoodMember c (record { gone = false; public = public; epoch_secret = epoch; keys = keys; signing = signing; kept = kept; pending = None })
 join_good c k bytes public epoch keys info signing kept good verdict_is signing_is kept_is = rw (signing_is, kept_is) (joined_good c k bytes _ good verdict_is)
 
-pub drop_good : (c : Crypto) (m : Member) → IsGoodMember c m → IsGoodMember c (record { gone = m.gone; public = m.public; epoch = m.epoch; keys = m.keys; signing = m.signing; kept = m.kept; pending = None })
+pub drop_good : (c : Crypto) (m : Member) → IsGoodMember c m → IsGoodMember c (record { gone = m.gone; public = m.public; epoch_secret = m.epoch_secret; keys = m.keys; signing = m.signing; kept = m.kept; pending = None })
 drop_good c m good = good_still c m m.gone m.kept None good good.kept tt
 
 -- ---- messages
 
-own_does : (c : Crypto) (m : Member) (bytes : List ℕ) (p : Pending) → m.gone ≡ false → own_pending m.pending bytes ≡ Some p → verdict c m bytes ≡ Ok (Advanced p.public.context.epoch, with_epoch m p.public p.epoch p.keys)
+own_does : (c : Crypto) (m : Member) (bytes : List ℕ) (p : Pending) → m.gone ≡ false → own_pending m.pending bytes ≡ Some p → verdict c m bytes ≡ Ok (Advanced p.public.context.epoch, with_epoch m p.public p.epoch_secret p.keys)
 unfolding verdict
 own_does c m bytes p gone own = let a : not m.gone ≡ true = ap not gone in rw (a, own) refl
 
@@ -77,14 +77,14 @@ other_does : (c : Crypto) (m : Member) (bytes : List ℕ) → m.gone ≡ false �
 unfolding verdict
 other_does c m bytes gone own = let a : not m.gone ≡ true = ap not gone in rw (a, own) refl
 
-still_advanced : (m : Member) (p : Pending) → with_epoch (without_pending m) p.public p.epoch p.keys ≡ with_epoch m p.public p.epoch p.keys
+still_advanced : (m : Member) (p : Pending) → with_epoch (without_pending m) p.public p.epoch_secret p.keys ≡ with_epoch m p.public p.epoch_secret p.keys
 unfolding with_epoch without_pending
 still_advanced m p = refl
 
-pub own_good : (c : Crypto) (m w n : Member) (bytes : List ℕ) (p : Pending) → IsGoodMember c m → IsBytes bytes → m.gone ≡ false → own_pending m.pending bytes ≡ Some p → w ≡ without_pending m → n ≡ with_epoch w p.public p.epoch p.keys → IsGoodMember c n
+pub own_good : (c : Crypto) (m w n : Member) (bytes : List ℕ) (p : Pending) → IsGoodMember c m → IsBytes bytes → m.gone ≡ false → own_pending m.pending bytes ≡ Some p → w ≡ without_pending m → n ≡ with_epoch w p.public p.epoch_secret p.keys → IsGoodMember c n
 own_good c m w n bytes p good are gone own free is =
-    let same : with_epoch m p.public p.epoch p.keys ≡ n = sym (is ∙ ap (λ (x : Member). with_epoch x p.public p.epoch p.keys) free ∙ still_advanced m p) in
-    subst (IsGoodMember c) same (delivered_good c m bytes (Advanced p.public.context.epoch, with_epoch m p.public p.epoch p.keys) good are (own_does c m bytes p gone own))
+    let same : with_epoch m p.public p.epoch_secret p.keys ≡ n = sym (is ∙ ap (λ (x : Member). with_epoch x p.public p.epoch_secret p.keys) free ∙ still_advanced m p) in
+    subst (IsGoodMember c) same (delivered_good c m bytes (Advanced p.public.context.epoch, with_epoch m p.public p.epoch_secret p.keys) good are (own_does c m bytes p gone own))
 
 pub other_good : (c : Crypto) (m w n : Member) (bytes : List ℕ) (r : Result Effect Refusal) → IsGoodMember c m → IsBytes bytes → m.gone ≡ false → own_pending m.pending bytes ≡ None → w ≡ m → DoesAs (λ (e : Effect). e) number_of (bytes_verdict c w bytes) w n r → IsGoodMember c n
 other_good c m w n bytes r good are gone own same does =
@@ -165,6 +165,6 @@ full_fit kept i (x ∷ xs) used e short =
     (full_first kept i x s.0 t.0 s.1 both, full_fit kept i xs t.0 t.1 both.1)
 
 pub commit_good : (c : Crypto) → Lawful c → (m n : Member) (list : List ProposalOrRef) (path : Bool) (seed : List ℕ) (r : Result Made Refusal) → IsGoodMember c m → AllByRecursion FullFits list → DoesAs messages_of number_of (commit_call c m list path seed) m n r →
-    IsGoodMember c n × IfOk r (λ made. HasMade c m n list made)
+    IsGoodMember c n × IfOk r (λ made. ReachesAll c m n list made)
 commit_good c laws m n list path seed (Ok made) good full h = commits_reach c laws m list path seed (messages_of made, n) good full h
 commit_good c laws m n list path seed (Err e) good full h = (subst (IsGoodMember c) (sym h.0) good, tt)

@@ -1,7 +1,7 @@
 -- The sender of a message, by a view of it.
 use Rattle.std.proofs.Common.{◌≡◌, ℕ, true, List, Some, None, Ok, Err, refl}
 use Rattle.std.specs.Prelude.{◌≢◌}
-use Rattle.mls_leaf.specs.Faults.{whole}
+use Rattle.mls_wire.specs.Whole.{whole}
 use Rattle.mls_leaf.specs.Limits.{input_limit}
 use Rattle.mls_types.specs.Message.{mls_message}
 use Rattle.mls_types.specs.declared.message.MlsMessage.{MlsMessage}

@@ -18,7 +18,7 @@ use Rattle.mls_public_group.specs.MessageLimit.{limited_text}
 use Rattle.mls_message.specs.declared.speaker.Speaker.{Speaker}
 use Rattle.mls_model.specs.Candidate.{leaf_key_of, unsigned_leaf, signed_leaf}
 use Rattle.mls_model.specs.Member.{KeptProposal, Member, kept_under}
-use Rattle.mls_model.specs.Messages.{is_within_limit, message_by, reference_of}
+use Rattle.mls_model.specs.Messages.{require_within_limit, message_by, reference_of}
 use Rattle.mls_model.specs.Propose.{proposal_by, keep_once, updated_leaf}
 use Rattle.mls_member.specs.declared.error.Refusal.{Refusal}
 use Rattle.mls_member.specs.Faults.{number_of}
@@ -63,18 +63,18 @@ abbrev text : Crypto → Member → Proposal → List ℕ
 text c m said = message_by m (proposal_by c m said)
 
 record IsSaid (c : Crypto) (m : Member) (said : Proposal) (message reference : List ℕ) : Type 0 where
-  within : is_within_limit (text c m said) ≡ Ok passed
+  within : require_within_limit (text c m said) ≡ Ok passed
   spelled : text c m said ≡ message
   named : reference_of (proposal_by c m said) ≡ reference
 
 said_is : (c : Crypto) (m : Member) (said : Proposal) (message reference : List ℕ) → limited_text (text c m said) ≡ Ok message → reference ≡ reference_of (proposal_by c m said) → IsSaid c m said message reference
 said_is c m said message reference sent e =
-    let s = then_ok (is_within_limit (text c m said)) (Ok (text c m said)) message sent in
+    let s = then_ok (require_within_limit (text c m said)) (Ok (text c m said)) message sent in
     let same = s.1 in
     record { within = s.0; spelled = cc; named = sym e }
 
-pub is_within : (c : Crypto) (m : Member) (said : Proposal) (message : List ℕ) → limited_text (text c m said) ≡ Ok message → is_within_limit (text c m said) ≡ Ok passed
-is_within c m said message sent = (then_ok (is_within_limit (text c m said)) (Ok (text c m said)) message sent).0
+pub is_within : (c : Crypto) (m : Member) (said : Proposal) (message : List ℕ) → limited_text (text c m said) ≡ Ok message → require_within_limit (text c m said) ≡ Ok passed
+is_within c m said message sent = (then_ok (require_within_limit (text c m said)) (Ok (text c m said)) message sent).0
 
 -- what is kept under its reference, by the code's names
 looked_up : (c : Crypto) (m : Member) (said : Proposal) (message reference : List ℕ) (r : Result Bool ℕ) → IsSaid c m said message reference → told (kept_under m.kept reference) message ≡ r → told (kept_under m.kept (reference_of (proposal_by c m said))) (text c m said) ≡ r

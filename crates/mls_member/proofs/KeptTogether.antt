@@ -3,7 +3,7 @@ use Rattle.std.proofs.Common.{◌≡◌, ℕ, true, false, List, [], ◌∷◌, 
 use Rattle.std.proofs.lemmas.List.{append-nil}
 use Rattle.mls_types.specs.declared.commit.ProposalOrRef.{ProposalOrRef}
 use Rattle.mls_model.specs.declared.item.Item.{Item}
-use Rattle.mls_model.specs.Make.{listed_of}
+use Rattle.mls_model.specs.Make.{list_item_of}
 use Rattle.mls_model.specs.Member.{KeptProposal}
 use Rattle.mls_public_group.proofs.Rest.{all_behind}
 use Rattle.mls_member.specs.Answers.{IsShortItem, AreShortItems}
@@ -41,11 +41,11 @@ abbrev names : List KeptProposal → List ProposalOrRef
 names ks = map named ks
 
 abbrev lists : List Item → List ProposalOrRef
-lists items = map listed_of items
+lists items = map list_item_of items
 
-listed_more : (items : List Item) (i : Item) (rest : List ProposalOrRef) → lists (items ++ i ∷ []) ++ rest ≡ lists items ++ (listed_of i ∷ rest)
+listed_more : (items : List Item) (i : Item) (rest : List ProposalOrRef) → lists (items ++ i ∷ []) ++ rest ≡ lists items ++ (list_item_of i ∷ rest)
 listed_more [] i rest = refl
-listed_more (x ∷ xs) i rest = ap (λ (l : List ProposalOrRef). listed_of x ∷ l) (listed_more xs i rest)
+listed_more (x ∷ xs) i rest = ap (λ (l : List ProposalOrRef). list_item_of x ∷ l) (listed_more xs i rest)
 
 -- the items and what is to come of the rest are what goes together of all
 pub record AreListed (me : ℕ) (all rest : List KeptProposal) (items : List Item) : Type 0 where
@@ -55,7 +55,7 @@ pub record AreListed (me : ℕ) (all rest : List KeptProposal) (items : List Ite
 pub listed_first : (me : ℕ) (all : List KeptProposal) → AreListed me all all []
 listed_first me all = record { list = refl; short = tt }
 
-pub listed_step : (me : ℕ) (all ks : List KeptProposal) (k : KeptProposal) (items : List Item) (item : Item) → is_left_out me all ks k ≡ false → listed_of item ≡ named k → IsShortItem item
+pub listed_step : (me : ℕ) (all ks : List KeptProposal) (k : KeptProposal) (items : List Item) (item : Item) → is_left_out me all ks k ≡ false → list_item_of item ≡ named k → IsShortItem item
     → AreListed me all (k ∷ ks) items → AreListed me all ks (items ++ item ∷ [])
 listed_step me all ks k items item h is s b = record {
   list =

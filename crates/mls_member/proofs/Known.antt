@@ -8,14 +8,13 @@ use Rattle.mls_model.specs.declared.effect.Effect.{Effect}
 use Rattle.mls_model.specs.declared.effect.Effect.TheVariants.{Known}
 use Rattle.mls_model.specs.Member.{Member, kept_under}
 use Rattle.mls_model.specs.Messages.{sender_leaf, reference_of}
-use Rattle.mls_model.specs.Verdict.{proposal_verdict}
+use Rattle.mls_model.specs.Verdict.{proposal_verdict, new_proposal}
 use Rattle.mls_wire.specs.Checks.{DoesAs}
 use Rattle.mls_types.specs.PublicMessage.{authenticated_content}
 use Rattle.mls_types.specs.Reference.{proposal_reference}
 use Rattle.mls_types.specs.declared.public_message.WireFormat.TheVariants.{PublicMessage}
 use Rattle.mls_member.specs.declared.error.Refusal.{Refusal}
 use Rattle.mls_member.specs.Faults.{number_of}
-use Rattle.mls_member.specs.Process.{new_proposal}
 
 -- a call does this to a member
 abbrev Does : Result (Effect × Member) ℕ → Member → Member → Result Effect Refusal → Type 0

@@ -5,7 +5,7 @@ use Rattle.std.specs.Int.{w16}
 use Rattle.std.proofs.lemmas.Bool.{ltb-false}
 use Rattle.mls_wire.specs.Reading.{uint, opaque}
 use Rattle.mls_wire.specs.Format.{Format, IsBytes}
-use Rattle.mls_leaf.specs.Faults.{whole}
+use Rattle.mls_wire.specs.Whole.{whole}
 use Rattle.mls_leaf.specs.Limits.{input_limit}
 use Rattle.mls_leaf.proofs.WholeLaws.{whole_takes}
 use Rattle.mls_leaf.specs.Proposal.{proposal as proposal_format}
@@ -13,7 +13,7 @@ use Rattle.mls_types.specs.Content.{content, framed_content}
 use Rattle.mls_types.specs.Message.{mls_message}
 use Rattle.mls_types.specs.PublicMessage.{public_message}
 use Rattle.mls_types.specs.Signed.{signed_content}
-use Rattle.mls_types.specs.SignedParts.{framed, content_of_body, auth_data, tag_spelling}
+use Rattle.mls_types.specs.SignedParts.{framed_content_of, content_of_body, auth_data, tag_spelling}
 use Rattle.mls_types.proofs.SignedParts.{signed_content_spelled}
 use Rattle.mls_types.specs.declared.content.Content as contents
 use Rattle.mls_types.specs.declared.content.Content.TheVariants as says
@@ -53,7 +53,7 @@ unfolding public_message
 public_spelled v = refl
 
 -- a message's FramedContent and FramedContentAuthData
-pub signed_parts : (v : messages.PublicMessage) (n : ℕ) → length (mls_message.spell (message_of.PublicMessage v)) ≤ n → length (framed_content.spell (framed v.content) ++ auth_data v.content) ≤ n
+pub signed_parts : (v : messages.PublicMessage) (n : ℕ) → length (mls_message.spell (message_of.PublicMessage v)) ≤ n → length (framed_content.spell (framed_content_of v.content) ++ auth_data v.content) ≤ n
 signed_parts v n h =
     let a : length (uint w16 1 ++ (uint w16 1 ++ public_message.spell v)) ≤ n = subst (λ (l : List ℕ). length l ≤ n) (message_spelled v) h in
     let b : length (public_message.spell v) ≤ n = back (uint w16 1) (public_message.spell v) n (back (uint w16 1) _ n a) in
@@ -92,15 +92,15 @@ is_shown view shown shows = (shown, shows)
 pub short_view : (view : PublicMessageView) (shown : messages.PublicMessage) → ShowsPublic view shown → length (mls_message.spell (message_of.PublicMessage shown)) ≤ input_limit → IsShortView view
 short_view view shown shows h =
     let all = signed_parts shown input_limit h in
-    let said : length (framed_content.spell (framed shown.content)) ≤ input_limit = front _ (auth_data shown.content) input_limit all in
-    let auth : length (auth_data shown.content) ≤ input_limit = back (framed_content.spell (framed shown.content)) _ input_limit all in
+    let said : length (framed_content.spell (framed_content_of shown.content)) ≤ input_limit = front _ (auth_data shown.content) input_limit all in
+    let auth : length (auth_data shown.content) ≤ input_limit = back (framed_content.spell (framed_content_of shown.content)) _ input_limit all in
     record {
       shown = is_shown view shown shows;
       said = subst (λ (l : List ℕ). length l ≤ input_limit) (sym shows.framed_content) said;
       auth = subst (λ (l : List ℕ). length l ≤ input_limit) (sym shows.auth_data) auth;
       signature = subst (λ (l : List ℕ). length l ≤ input_limit) (sym shows.signature) (inside shown.content.signature input_limit (front (opaque shown.content.signature) _ input_limit auth));
       tag = short_tag view.auth.confirmation_tag shown.content.body shows.confirmation_tag (back (opaque shown.content.signature) (tag_spelling shown.content.body) input_limit auth);
-      content = short_content view.content.content (content_of_body shown.content.body) shows.content.content (content_inside (framed shown.content) input_limit said);
+      content = short_content view.content.content (content_of_body shown.content.body) shows.content.content (content_inside (framed_content_of shown.content) input_limit said);
     }
 
 -- a view of a message that all of the bytes spell

@@ -19,7 +19,7 @@ use Rattle.mls_leaf.specs.declared.leaf.LeafSource.TheVariants as leaf_node_sour
 use Rattle.mls_leaf.specs.declared.proposal.Proposal.{Proposal}
 use Rattle.mls_leaf.specs.declared.proposal.Proposal.TheVariants.{Add, Update, Remove, GroupContextExtensions}
 use Rattle.mls_types.specs.Content.{framed_content}
-use Rattle.mls_types.specs.SignedParts.{framed, auth_data, signed_with}
+use Rattle.mls_types.specs.SignedParts.{framed_content_of, auth_data, with_signature}
 use Rattle.mls_types.proofs.SignedParts.{framed_signed_with}
 use Rattle.mls_types.specs.declared.content.Content.TheVariants as says
 use Rattle.mls_types.specs.declared.content.FramedContent.{FramedContent}
@@ -33,7 +33,7 @@ use Rattle.mls_public_group.specs.MessageLimit.{FitsIfShort}
 use Rattle.mls_public_group.specs.Short.{IsBelow}
 use Rattle.mls_model.specs.Candidate.{leaf_key_of, unsigned_leaf, signed_leaf}
 use Rattle.mls_model.specs.Member.{Member}
-use Rattle.mls_model.specs.Messages.{is_within_limit, content_by, content_signature, content_tag, message_by}
+use Rattle.mls_model.specs.Messages.{require_within_limit, content_by, content_signature, content_tag, message_by}
 use Rattle.mls_model.specs.Propose.{proposal_by, updated_leaf}
 use Rattle.mls_candidate.specs.Short.{IsShortLeaf}
 use Rattle.mls_candidate.proofs.LengthLaws.{content_most}
@@ -44,23 +44,23 @@ use Rattle.mls_member.proofs.LengthLaws.{signed_parts, proposal_inside}
 -- ---- by their messages
 
 -- a content is no longer than its message
-content_within : (m : Member) (v : SignedContent) → is_within_limit (message_by m v) ≡ Ok passed → length (framed_content.spell (framed v)) ≤ input_limit
+content_within : (m : Member) (v : SignedContent) → require_within_limit (message_by m v) ≡ Ok passed → length (framed_content.spell (framed_content_of v)) ≤ input_limit
 unfolding message_by
-content_within m v h = front _ (auth_data v) input_limit (signed_parts (record { content = v; membership_tag = content_tag m.epoch v m.public.context }) input_limit (length_within _ h))
+content_within m v h = front _ (auth_data v) input_limit (signed_parts (record { content = v; membership_tag = content_tag m.epoch_secret v m.public.context }) input_limit (length_within _ h))
 
 -- nor is a proposal
 said_within : (m : Member) (p : Proposal) → length (framed_content.spell (content_by m (says.Proposal p))) ≤ input_limit → length (proposal_format.spell p) ≤ input_limit
 unfolding content_by
 said_within m p h = proposal_inside p input_limit (content_inside _ input_limit h)
 
-proposal_within : (c : Crypto) (m : Member) (p : Proposal) → is_within_limit (message_by m (proposal_by c m p)) ≡ Ok passed → length (proposal_format.spell p) ≤ input_limit
+proposal_within : (c : Crypto) (m : Member) (p : Proposal) → require_within_limit (message_by m (proposal_by c m p)) ≡ Ok passed → length (proposal_format.spell p) ≤ input_limit
 unfolding proposal_by
 proposal_within c m p h =
     let said : FramedContent = content_by m (says.Proposal p) in
     let signature : List ℕ = content_signature c m.signing said m.public.context in
-    said_within m p (subst (λ (v : FramedContent). length (framed_content.spell v) ≤ input_limit) (framed_signed_with said signature []) (content_within m (signed_with said signature []) h))
+    said_within m p (subst (λ (v : FramedContent). length (framed_content.spell v) ≤ input_limit) (framed_signed_with said signature []) (content_within m (with_signature said signature []) h))
 
-pub own_below : (c : Crypto) (m : Member) (p : Proposal) → FitsIfShort proposal_format p → is_within_limit (message_by m (proposal_by c m p)) ≡ Ok passed → IsBelow (2 ^ 27) proposal_format p
+pub own_below : (c : Crypto) (m : Member) (p : Proposal) → FitsIfShort proposal_format p → require_within_limit (message_by m (proposal_by c m p)) ≡ Ok passed → IsBelow (2 ^ 27) proposal_format p
 own_below c m p fits h = let within = proposal_within c m p h in record { fits = fits (omega arith); below = omega arith }
 
 -- ---- what has a spelling

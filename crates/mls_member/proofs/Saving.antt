@@ -4,7 +4,8 @@ use Rattle.std.specs.Prelude.{IsSome, option_map}
 use Rattle.std.specs.List.{AllByRecursion}
 use Rattle.std.proofs.lemmas.List.{take_more, take_all, map-append}
 use Rattle.std.proofs.lemmas.Slice.Eq.{bytes_eq-Decides}
-use Rattle.mls_leaf.specs.Faults.{Refuses, Spells, whole}
+use Rattle.mls_wire.specs.Whole.{whole}
+use Rattle.mls_leaf.specs.Faults.{Refuses, Spells}
 use Rattle.mls_leaf.specs.Limits.{input_limit}
 use Rattle.mls_leaf.specs.declared.error.LeafError.{LeafError}
 use Rattle.mls_leaf.proofs.Codecs.{Refuses-whole}
@@ -63,8 +64,8 @@ pending_loaded : (c : Crypto) (m : Member) → IsGoodMember c m → (o : Option 
 unfolding load_pending with_epoch
 pending_loaded c m good None h secrets = refl
 pending_loaded c m good (Some p) h secrets =
-    let after : Member = with_epoch m p.public p.epoch p.keys in
-    let e = loads_what_was_saved c p.public p.epoch p.keys (state_of_good c after (pending_leads c m p good h)) secrets in
+    let after : Member = with_epoch m p.public p.epoch_secret p.keys in
+    let e = loads_what_was_saved c p.public p.epoch_secret p.keys (state_of_good c after (pending_leads c m p good h)) secrets in
     rw e refl
 
 -- ---- the whole
@@ -73,10 +74,10 @@ gone_back : (gone : Bool) → is_removed (standing_of gone) ≡ gone
 gone_back true = refl
 gone_back false = refl
 
-pub member_loaded : (c : Crypto) (m : Member) → HasSecrets (saved_state_of m.public m.epoch m.keys) → is_secret m.signing ≡ true → load_all_kept (map saved_proposal_of m.kept) ≡ Ok m.kept → HasSecretsIfPending (option_map saved_pending_of m.pending) → IsLoadedIfGood c m
+pub member_loaded : (c : Crypto) (m : Member) → HasSecrets (saved_state_of m.public m.epoch_secret m.keys) → is_secret m.signing ≡ true → load_all_kept (map saved_proposal_of m.kept) ≡ Ok m.kept → HasSecretsIfPending (option_map saved_pending_of m.pending) → IsLoadedIfGood c m
 unfolding load_member saved_of
 member_loaded c m secrets signing kept pending good =
-    let e1 = loads_what_was_saved c m.public m.epoch m.keys (state_of_good c m good) secrets in
+    let e1 = loads_what_was_saved c m.public m.epoch_secret m.keys (state_of_good c m good) secrets in
     let e2 : signs_as c (leaf_of m.public.tree m.keys.leaf) m.signing ≡ true = rw good.is_own ((bytes_eq-Decides _ _).1 good.signing) in
     let e3 = pending_loaded c m good m.pending good.pending pending in
     let e4 : is_removed (standing_of m.gone) ≡ m.gone = gone_back m.gone in

@@ -12,11 +12,11 @@ use Rattle.mls_tree.specs.Refusals.{RefusesOutright}
 use Rattle.mls_model.specs.MemberInvariant.{IsGoodCandidate, IsGoodMember}
 use Rattle.mls_model.specs.Candidate.{Candidate}
 use Rattle.mls_model.specs.Join as model
-use Rattle.mls_model.specs.Make.{listed_of, commit_call}
+use Rattle.mls_model.specs.Make.{list_item_of, commit_call}
 use Rattle.mls_model.specs.Member.{KeptProposal, Member, Pending, find_proposals, kept_under}
 use Rattle.mls_model.specs.PublicState.{Used}
 use Rattle.mls_model.specs.Sharing.{ReachesGroup}
-use Rattle.mls_join.specs.Entrance.{outer_checks}
+use Rattle.mls_join.specs.Entrance.{welcome_outer_checks}
 use Rattle.mls_make.specs.CommitCall.{made_as}
 use Rattle.mls_make.specs.declared.new_commit.NewCommit.{NewCommit}
 use Rattle.mls_public_group.specs.ShortProposal.{IsShortProposal}
@@ -31,9 +31,11 @@ use Rattle.mls_member.specs.declared.join.Joined.{Joined}
 abbrev pub messages_of : Made → List ℕ × Option (List ℕ)
 messages_of made = (made.commit.items, option_map (λ v. v.items) made.welcome)
 
--- what a commit call made of a list reaches the group (RFC 9420, 12.4): the committer, the others, and those that it adds
-abbrev pub HasMade : Crypto → Member → Member → List ProposalOrRef → Made → Type 0
-HasMade c maker after list made = ReachesGroup c maker after list made.commit.items (option_map (λ v. v.items) made.welcome)
+-- what a commit call made of a list reaches the group (RFC 9420, 12.4): the committer, the others, and those that it
+-- adds
+abbrev pub ReachesAll : Crypto → Member → Member → List ProposalOrRef → Made → Type 0
+ReachesAll c maker after list made =
+    ReachesGroup c maker after list made.commit.items (option_map (λ v. v.items) made.welcome)
 
 -- a new member with the GroupInfo
 abbrev pub joined_as : {S : Type 0} → Joined S → model.JoinedMember
@@ -53,42 +55,51 @@ AreShortItems items = AllByRecursion IsShortItem items
 
 -- the proposal that a member keeps under a reference (RFC 9420, 12.4)
 abbrev pub kept_proposal : Member → List ℕ → Option Proposal
-kept_proposal m reference = option_map (λ (k : KeptProposal). k.proposal) (kept_under m.kept reference)
+kept_proposal m reference =
+    option_map (λ (k : KeptProposal). k.proposal) (kept_under m.kept reference)
 
 -- the message of the proposal that a member keeps under a reference (RFC 9420, 12.4)
 abbrev pub kept_message : Member → List ℕ → Option (List ℕ)
-kept_message m reference = option_map (λ (k : KeptProposal). k.message) (kept_under m.kept reference)
+kept_message m reference =
+    option_map (λ (k : KeptProposal). k.message) (kept_under m.kept reference)
 
 -- the epoch secret that the pending commit of a member leads to
 abbrev pub pending_secret : Member → Option (List ℕ)
-pending_secret m = option_map (λ (p : Pending). p.epoch) m.pending
+pending_secret m = option_map (λ (p : Pending). p.epoch_secret) m.pending
 
 -- a kept proposal, as a commit uses it
 abbrev pub used_kept : KeptProposal → Used
 used_kept k = record { proposal = k.proposal; sender = k.sender; is_full = false }
 
--- The call answers the proposals that a list uses, with their senders, or refuses with 60 where a reference isn't kept,
--- memory aside.
+-- The call answers the proposals that a list uses, with their senders, or refuses with `UnknownReference` (60) where a
+-- reference isn't kept, memory aside.
 abbrev pub Finds : List KeptProposal → ℕ → List ProposalOrRef → Result (Vec Used) Refusal → Type 0
-Finds kept committer list result = Answers (λ v. v.items) number_of (find_proposals kept committer list) result
+Finds kept committer list result =
+    Answers (λ v. v.items) number_of (find_proposals kept committer list) result
 
 -- ---- commits
 
 -- The call makes a commit of these proposals, or refuses with the number of what fails, memory aside.
-abbrev pub MakesCommit : Crypto → Member → List Item → Bool → List ℕ → Result NewCommit Refusal → Type 0
-MakesCommit c m items path seed result = Answers made_as number_of (made_of_list c m (map listed_of items) path seed) result
+abbrev pub MakesCommit : Crypto → Member → List Item → Bool → List ℕ → Result NewCommit Refusal →
+    Type 0
+MakesCommit c m items path seed result =
+    Answers made_as number_of (made_of_list c m (map list_item_of items) path seed) result
 
 -- A call does what the definition of a commit says, and answers its messages.
-abbrev pub Commits : Result ((List ℕ × Option (List ℕ)) × Member) ℕ → Member → Member → Result Made Refusal → Type 0
+abbrev pub Commits : Result ((List ℕ × Option (List ℕ)) × Member) ℕ → Member → Member →
+    Result Made Refusal → Type 0
 Commits defined old new result = DoesAs messages_of number_of defined old new result
 
 -- The call commits these proposals, or refuses with the number of what fails, memory aside.
-abbrev pub CommitsItems : Crypto → List Item → Bool → List ℕ → Member → Member → Result Made Refusal → Type 0
-CommitsItems c items path seed old new result = Commits (commit_call c old (map listed_of items) path seed) old new result
+abbrev pub CommitsItems : Crypto → List Item → Bool → List ℕ → Member → Member →
+    Result Made Refusal → Type 0
+CommitsItems c items path seed old new result =
+    Commits (commit_call c old (map list_item_of items) path seed) old new result
 
 -- what a good member's commit made reaches the group
 abbrev pub MadeReaches : Crypto → List Item → Member → Member → Result Made Refusal → Type 0
-MadeReaches c items old new result = IsGoodMember c old → IfOk result (HasMade c old new (map listed_of items))
+MadeReaches c items old new result =
+    IsGoodMember c old → IfOk result (ReachesAll c old new (map list_item_of items))
 
 -- a member that wasn't removed and has a pending commit is refused with that
 abbrev pub RefusesPending : {A : Type 0} → Member → Result A Refusal → Type 0
@@ -96,7 +107,8 @@ RefusesPending m result = m.gone ≡ false → IsSome m.pending → result ≡ E
 
 -- a member that wasn't removed, without a pending commit, is refused where no epoch comes after this
 abbrev pub RefusesLast : {A : Type 0} → Member → Result A Refusal → Type 0
-RefusesLast m result = m.gone ≡ false → m.pending ≡ None → 2 ^ 64 ≤ m.public.context.epoch + 1 → result ≡ Err EpochEnd
+RefusesLast m result =
+    m.gone ≡ false → m.pending ≡ None → 2 ^ 64 ≤ m.public.context.epoch + 1 → result ≡ Err EpochEnd
 
 -- ---- creations and joins
 
@@ -112,6 +124,6 @@ AdmitsGood c k result = IsGoodCandidate c k → IfOk result (λ j. IsGoodMember 
 abbrev pub CreatesGood : Crypto → Candidate → Result Member Refusal → Type 0
 CreatesGood c k result = IsGoodCandidate c k → IfOk result (λ m. IsGoodMember c m)
 
--- faults of decoding, 70 and 71 are answered whatever memory there is
+-- faults of decoding, `NotWelcome` (70) and `WrongSuite` (71) are answered whatever memory there is
 abbrev pub RefusesOuter : {A : Type 0} → ℕ → List ℕ → Result A Refusal → Type 0
-RefusesOuter number bytes result = RefusesOutright number_of (outer_checks number bytes) result
+RefusesOuter number bytes result = RefusesOutright number_of (welcome_outer_checks number bytes) result

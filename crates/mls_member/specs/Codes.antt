@@ -6,11 +6,8 @@ use Rattle.mls_leaf.specs.declared.proposal.Proposal.{Proposal}
 use Rattle.mls_treekem_model.specs.Keys.{PrivateKeys}
 use Rattle.mls_model.specs.PublicState.{PublicState}
 use Rattle.mls_model.specs.Member.{KeptProposal, Pending, Member}
-use Rattle.mls_public_group.specs.Codes.{coded_proposal}
+use Rattle.mls_public_group.specs.Codes.{coded_bytes, coded_proposal}
 use Rattle.mls_public_group.specs.PublicCodes.{coded_public}
-
-abbrev coded_bytes : Coded (List ℕ)
-coded_bytes = coded_list coded_ℕ
 
 abbrev pub coded_keys : Coded PrivateKeys
 coded_keys =
@@ -26,11 +23,11 @@ coded_kept =
 abbrev pub coded_pending : Coded Pending
 coded_pending =
     code_by (List ℕ × (PublicState × (List ℕ × PrivateKeys))) (coded× coded_bytes (coded× coded_public (coded× coded_bytes coded_keys)))
-    (λ p. (p.message, (p.public, (p.epoch, p.keys)))) (λ x. record { message = x.0; public = x.1.0; epoch = x.1.1.0; keys = x.1.1.1 }) (λ _. refl)
+    (λ p. (p.message, (p.public, (p.epoch_secret, p.keys)))) (λ x. record { message = x.0; public = x.1.0; epoch_secret = x.1.1.0; keys = x.1.1.1 }) (λ _. refl)
 
 abbrev pub coded_member : Coded Member
 coded_member =
     code_by (Bool × (PublicState × (List ℕ × (PrivateKeys × (List ℕ × (List KeptProposal × Option Pending))))))
     (coded× coded_bool (coded× coded_public (coded× coded_bytes (coded× coded_keys (coded× coded_bytes (coded× (coded_list coded_kept) (coded_option coded_pending)))))))
-    (λ m. (m.gone, (m.public, (m.epoch, (m.keys, (m.signing, (m.kept, m.pending)))))))
-    (λ x. record { gone = x.0; public = x.1.0; epoch = x.1.1.0; keys = x.1.1.1.0; signing = x.1.1.1.1.0; kept = x.1.1.1.1.1.0; pending = x.1.1.1.1.1.1 }) (λ _. refl)
+    (λ m. (m.gone, (m.public, (m.epoch_secret, (m.keys, (m.signing, (m.kept, m.pending)))))))
+    (λ x. record { gone = x.0; public = x.1.0; epoch_secret = x.1.1.0; keys = x.1.1.1.0; signing = x.1.1.1.1.0; kept = x.1.1.1.1.1.0; pending = x.1.1.1.1.1.1 }) (λ _. refl)

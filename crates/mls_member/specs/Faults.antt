@@ -39,7 +39,7 @@ number_of PendingCommit = 67
 abbrev pub Gives : {A : Type 0} → Result A ℕ → Result A Refusal → Type 0
 Gives defined result = Answers (λ x. x) number_of defined result
 
--- A call does what the definition says, from an old state to a new one. A refusal changes nothing, and its number is the
--- definition's, unless memory was refused.
+-- A call does what the definition says, from an old state to a new one. A refusal changes nothing, and its number is
+-- the definition's, unless memory was refused.
 abbrev pub Does : {A S : Type 0} → Result (A × S) ℕ → S → S → Result A Refusal → Type 0
 Does defined old new result = DoesAs (λ x. x) number_of defined old new result

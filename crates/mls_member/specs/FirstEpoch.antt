@@ -9,15 +9,15 @@ use Rattle.mls_tree_model.specs.Term.{Leaf}
 use Rattle.mls_schedule.specs.Epoch.{confirmation_tag}
 use Rattle.mls_schedule.specs.Transcript.{interim_hash}
 use Rattle.mls_model.specs.Candidate.{first_context}
-use Rattle.mls_model.specs.Messages.{is_within_limit}
+use Rattle.mls_model.specs.Messages.{require_within_limit}
 use Rattle.mls_model.specs.PublicState.{PublicState}
 
 -- the context of a group with one leaf (RFC 9420, 11)
 abbrev pub context_with_leaf : Crypto → List ℕ → LeafNode → GroupContext
 context_with_leaf c group leaf = first_context c group (Leaf (Some leaf))
 
--- the public state of a group with one leaf, or 6 where its context is too long (RFC 9420, 11)
+-- the public state of a group with one leaf, or `TooLong` (6) where its context is too long (RFC 9420, 11)
 unfoldable pub first_public : Crypto → LeafNode → List ℕ → List ℕ → Result PublicState ℕ
 first_public c leaf group epoch =
-    is_within_limit (group_context.spell (first_context c group (Leaf (Some leaf))))
+    require_within_limit (group_context.spell (first_context c group (Leaf (Some leaf))))
     >> Ok (record { context = first_context c group (Leaf (Some leaf)); tree = Leaf (Some leaf); interim = interim_hash [] (confirmation_tag epoch []) })

@@ -28,7 +28,8 @@ group_members t = map (λ (x : ℕ × LeafNode). member_of_leaf x.0 x.1) (member
 
 -- the identity of a member's own leaf, if it has one
 abbrev pub own_identity : Member → Option (List ℕ)
-own_identity m = option_map (λ (v : LeafNode). v.credential.identity) (leaf_of m.public.tree m.keys.leaf)
+own_identity m =
+    option_map (λ (v : LeafNode). v.credential.identity) (leaf_of m.public.tree m.keys.leaf)
 
 -- ---- one by one
 

@@ -18,7 +18,8 @@ inspection_as x = (x.effect, x.member)
 
 -- The call answers the effect and the member after it, or refuses with the number of the first check that fails, memory
 -- aside.
-abbrev pub Inspects : {S : Type 0} → Result (Effect × Member) ℕ → Result (Inspection S) Refusal → Type 0
+abbrev pub Inspects : {S : Type 0} → Result (Effect × Member) ℕ → Result (Inspection S) Refusal →
+    Type 0
 Inspects defined result = Answers inspection_as number_of defined result
 
 -- of a good member it answers a good one
@@ -27,7 +28,8 @@ ShowsGood c m result = IsGoodMember c m → IfOk result (λ x. IsGoodMember c x.
 
 -- the leaf of a message's sender, where it is a PublicMessage (RFC 9420, 6)
 abbrev pub sender_of_message : MlsMessage → Option ℕ
-sender_of_message message = option_map (λ (v : PublicMessage). sender_leaf v.content.sender) (public_in message)
+sender_of_message message =
+    option_map (λ (v : PublicMessage). sender_leaf v.content.sender) (public_in message)
 
 -- the leaf of the sender of the message that was read, if there is one
 abbrev pub sender_in : Result MlsMessage ℕ → Option ℕ

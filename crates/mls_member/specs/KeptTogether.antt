@@ -13,7 +13,7 @@ use Rattle.mls_model.specs.Make.{commit_call}
 use Rattle.mls_model.specs.Member.{KeptProposal, Member}
 use Rattle.mls_model.specs.MemberInvariant.{IsGoodMember}
 use Rattle.mls_model.specs.Proposals.{add_in, extensions_in, remove_in}
-use Rattle.mls_member.specs.Answers.{HasMade, messages_of}
+use Rattle.mls_member.specs.Answers.{ReachesAll, messages_of}
 use Rattle.mls_member.specs.Faults.{number_of}
 use Rattle.mls_member.specs.Process.{is_leaf}
 use Rattle.mls_member.specs.declared.commit_kept.KeptCommit.{KeptCommit}
@@ -51,9 +51,9 @@ sets_extensions k = is_some (extensions_in k.proposal)
 
 -- ---- which go together
 
--- of the member at leaf me, that keeps all of these: whether it leaves out a proposal, behind which stand later ones. It
--- leaves out its own update and its own removal, an update of a leaf that is removed, and of several proposals that change
--- one leaf, add one client or set the extensions, all but the last (RFC 9420, 12.2)
+-- of the member at leaf me, that keeps all of these: whether it leaves out a proposal, behind which stand later ones.
+-- It leaves out its own update and its own removal, an update of a leaf that is removed, and of several proposals that
+-- change one leaf, add one client or set the extensions, all but the last (RFC 9420, 12.2)
 abbrev pub gives_way : ℕ → List KeptProposal → List KeptProposal → ℕ → Proposal → Bool
 gives_way me all later sender (Add offered) = list_any (adds offered.leaf_node.signature_key) later
 gives_way me all later sender (Update leaf) =
@@ -61,13 +61,15 @@ gives_way me all later sender (Update leaf) =
 gives_way me all later sender (Remove leaf) = (leaf == me) || list_any (removes leaf) later
 gives_way me all later sender (GroupContextExtensions list) = list_any sets_extensions later
 
+-- the same of a kept proposal, with its sender
 abbrev pub is_left_out : ℕ → List KeptProposal → List KeptProposal → KeptProposal → Bool
 is_left_out me all later k = gives_way me all later k.sender k.proposal
 
 -- of some of the kept proposals, with all that stand behind them, those that go together
 unfoldable pub together : ℕ → List KeptProposal → List KeptProposal → List KeptProposal
 together me all [] = []
-together me all (k ∷ ks) = if is_left_out me all ks k then together me all ks else k ∷ together me all ks
+together me all (k ∷ ks) =
+    if is_left_out me all ks k then together me all ks else k ∷ together me all ks
 
 -- and those that are left out
 unfoldable pub apart : ℕ → List KeptProposal → List KeptProposal → List KeptProposal
@@ -88,13 +90,17 @@ left_out_of m = map (λ (k : KeptProposal). k.reference) (apart m.keys.leaf m.ke
 
 -- ---- the call
 
+-- the messages of such a commit: its own, and that of its Welcome where there is one
 abbrev pub kept_messages : KeptCommit → List ℕ × Option (List ℕ)
 kept_messages x = messages_of x.made
 
 -- The call commits the kept proposals that go together, or refuses with the number of what fails, memory aside.
-abbrev pub CommitsKept : Crypto → Bool → List ℕ → Member → Member → Result KeptCommit Refusal → Type 0
-CommitsKept c path seed old new result = DoesAs kept_messages number_of (commit_call c old (kept_list old) path seed) old new result
+abbrev pub CommitsKept : Crypto → Bool → List ℕ → Member → Member → Result KeptCommit Refusal →
+    Type 0
+CommitsKept c path seed old new result =
+    DoesAs kept_messages number_of (commit_call c old (kept_list old) path seed) old new result
 
 -- what a good member's commit made reaches the group
 abbrev pub KeptReaches : Crypto → Member → Member → Result KeptCommit Refusal → Type 0
-KeptReaches c old new result = IsGoodMember c old → IfOk result (λ x. HasMade c old new (kept_list old) x.made)
+KeptReaches c old new result =
+    IsGoodMember c old → IfOk result (λ x. ReachesAll c old new (kept_list old) x.made)

@@ -11,7 +11,6 @@ use Rattle.mls_leaf.specs.Proposal.{proposal as proposal_format}
 use Rattle.mls_leaf.specs.declared.extension.Extension.{Extension}
 use Rattle.mls_leaf.specs.declared.leaf.LeafNode.{LeafNode}
 use Rattle.mls_leaf.specs.declared.proposal.Proposal.{Proposal}
-use Rattle.mls_types.specs.GroupContext.{group_context}
 use Rattle.mls_types.specs.declared.commit.Commit.{Commit}
 use Rattle.mls_types.specs.declared.commit.ProposalOrRef.{ProposalOrRef}
 use Rattle.mls_types.specs.declared.commit.ProposalOrRef.TheVariants as listed
@@ -24,21 +23,22 @@ use Rattle.mls_view.specs.Shown.{ShowsPublic}
 use Rattle.mls_suite.specs.Crypto.{Crypto}
 use Rattle.mls_tree_model.specs.Term.{leaf_of}
 use Rattle.mls_treekem_model.specs.Keys.{PrivateKeys}
-use Rattle.mls_schedule.specs.Epoch.{init_secret, next_epoch_secret, confirmation_tag}
+use Rattle.mls_schedule.specs.Epoch.{confirmation_tag}
 use Rattle.mls_model.specs.declared.effect.Effect.{Effect}
-use Rattle.mls_model.specs.declared.effect.Effect.TheVariants.{Proposed, Advanced, Removed}
-use Rattle.mls_model.specs.Proposals.{extended, proposal_checks, remove_in}
+use Rattle.mls_model.specs.declared.effect.Effect.TheVariants.{Removed}
+use Rattle.mls_model.specs.Proposals.{extensions_after, remove_in}
 use Rattle.mls_model.specs.PublicState.{Used}
-use Rattle.mls_model.specs.Commit.{Change, change_of_commit, public_with}
-use Rattle.mls_model.specs.Member.{KeptProposal, Member, find_proposals, keys_after_edits, with_kept, with_epoch, after_removal}
+use Rattle.mls_model.specs.Commit.{Change, change_of_commit}
+use Rattle.mls_model.specs.Member.{KeptProposal, Member, find_proposals, keys_after_edits, after_removal}
 use Rattle.mls_model.specs.Messages.{decode_message, public_in, sender_leaf, is_handshake, is_content_signed, content_tag}
-use Rattle.mls_model.specs.Verdict.{is_kept, framing_checks, content_verdict, open_path_secret, enter_epoch}
+use Rattle.mls_model.specs.Verdict.{is_kept, open_path_secret, enter_epoch}
 use Rattle.mls_public_group.specs.Short.{IsBelow}
 
 -- ---- every message
 
--- the leaf of a message's sender, by the group, the epoch, the sender and whether it is a proposal or a commit: 42 another
--- group, 43 another epoch, 44 no member at the sender's leaf, 45 application data (RFC 9420, 6)
+-- the leaf of a message's sender, by the group, the epoch, the sender and whether it is a proposal or a commit:
+-- `WrongGroup` (42) another group, `WrongEpoch` (43) another epoch, `SenderNotMember` (44) no member at the sender's
+-- leaf, `NotHandshake` (45) application data (RFC 9420, 6)
 unfoldable pub sender_at : Member → List ℕ → ℕ → ℕ → Bool → Result LeafNode ℕ
 sender_at m group_id epoch sender handshake = do
   require 42 (bytes_eq group_id m.public.context.group_id)
@@ -53,36 +53,29 @@ says_handshake (view_of.Application text) = false
 says_handshake (view_of.Proposal part) = true
 says_handshake (view_of.Commit proposals path) = true
 
--- the leaf of a message's sender, where it passes 42 to 45, and 46 the membership tag of the message (RFC 9420, 6.2)
+-- the leaf of a message's sender, where it passes `WrongGroup` (42) to `NotHandshake` (45), and `BadMembershipTag` (46)
+-- the membership tag of the message (RFC 9420, 6.2)
 abbrev pub sender_of : Member → PublicMessage → Result LeafNode ℕ
 sender_of m v = do
-  leaf ← sender_at m v.content.group_id v.content.epoch (sender_leaf v.content.sender) (is_handshake v.content.body)
-  require 46 (bytes_eq v.membership_tag (content_tag m.epoch v.content m.public.context))
+  leaf ← sender_at m v.content.group_id v.content.epoch (sender_leaf v.content.sender)
+      (is_handshake v.content.body)
+  require 46 (bytes_eq v.membership_tag (content_tag m.epoch_secret v.content m.public.context))
   Ok leaf
 
--- 47 the signature, 48 the member's own leaf, and no proposal that it keeps (RFC 9420, 6.1)
+-- `BadSignature` (47) the signature, `OwnUnknown` (48) the member's own leaf, and no proposal that it keeps (RFC 9420,
+-- 6.1)
 unfoldable pub check_sender : Crypto → Member → PublicMessage → List ℕ → LeafNode → Result Passed ℕ
 check_sender c m v bytes leaf = do
   require 47 (is_content_signed c leaf.signature_key v.content m.public.context)
   require 48 (not (sender_leaf v.content.sender == m.keys.leaf) || is_kept m.kept bytes)
 
--- the checks of bytes that take no memory: decoding, 41 no PublicMessage, and 42 to 46
-unfoldable pub outer_checks : Member → List ℕ → Result LeafNode ℕ
-outer_checks m bytes = do
+-- the checks of bytes that take no memory: decoding, `NotPublicMessage` (41) no PublicMessage, and `WrongGroup` (42) to
+-- `BadMembershipTag` (46)
+unfoldable pub message_outer_checks : Member → List ℕ → Result LeafNode ℕ
+message_outer_checks m bytes = do
   whole ← decode_message bytes
   v ← require_some 41 (public_in whole)
   sender_of m v
-
--- what a PublicMessage does
-abbrev pub message_verdict : Crypto → Member → PublicMessage → List ℕ → Result (Effect × Member) ℕ
-message_verdict c m v bytes = framing_checks c m v bytes >> content_verdict c m v.content bytes v.content.body
-
--- ---- a proposal
-
--- a proposal that is not known yet is checked and kept under its reference (RFC 9420, 12.1)
-unfoldable pub new_proposal : Crypto → Member → List ℕ → ℕ → List ℕ → Proposal → Result (Effect × Member) ℕ
-new_proposal c m reference sender bytes proposal =
-    proposal_checks c m.public sender proposal >> Ok (Proposed reference, with_kept m (record { reference = reference; message = bytes; proposal = proposal; sender = sender; own_key = None }))
 
 -- ---- a commit
 
@@ -101,7 +94,8 @@ abbrev pub removes_leaf : ℕ → Used → Bool
 removes_leaf leaf u = is_leaf leaf (remove_in u.proposal)
 
 -- what a commit makes of the public state, and whether it removes the member (RFC 9420, 12.4.2)
-unfoldable pub check_commit : Crypto → Member → ℕ → Commit → FramedContent → List ℕ → Result (Change × Bool) ℕ
+unfoldable pub check_commit : Crypto → Member → ℕ → Commit → FramedContent → List ℕ →
+    Result (Change × Bool) ℕ
 check_commit c m committer commit said signature = do
   used ← find_proposals m.kept committer commit.proposals
   change ← change_of_commit c m.public committer used commit said signature
@@ -112,21 +106,17 @@ abbrev pub edited_keys : Member → Commit → Change → PrivateKeys
 edited_keys m commit change = keys_after_edits m commit.proposals change.edits.tree
 
 -- the member after a commit whose change is known (RFC 9420, 12.4.2)
-unfoldable pub after_change : Crypto → Member → ℕ → Commit → List ℕ → Change × Bool → Result (Effect × Member) ℕ
+unfoldable pub after_change : Crypto → Member → ℕ → Commit → List ℕ → Change × Bool →
+    Result (Effect × Member) ℕ
 after_change c m committer commit tag (change, removes) =
     if removes then Ok (Removed, after_removal m)
     else (open_path_secret c m committer change (edited_keys m commit change) commit.path >>= λ climb. enter_epoch m change climb tag)
 
 -- the member after a commit that isn't in the last epoch
-abbrev pub follow_commit : Crypto → Member → ℕ → Commit → FramedContent → List ℕ → List ℕ → Result (Effect × Member) ℕ
-follow_commit c m committer commit said signature tag = check_commit c m committer commit said signature >>= after_change c m committer commit tag
-
--- the next epoch by its commit secret, with the keys that the member has in it; 65 where the tag isn't that of it
-unfoldable pub enter_epoch_with : Member → Change → List ℕ → PrivateKeys → List ℕ → Result (Effect × Member) ℕ
-enter_epoch_with m change secret keys tag = do
-  let epoch = next_epoch_secret (init_secret m.epoch) secret (group_context.spell change.context)
-  require 65 (bytes_eq tag (confirmation_tag epoch change.context.confirmed_transcript_hash))
-  Ok (Advanced change.context.epoch, with_epoch m (public_with change tag) epoch keys)
+abbrev pub follow_commit : Crypto → Member → ℕ → Commit → FramedContent → List ℕ → List ℕ →
+    Result (Effect × Member) ℕ
+follow_commit c m committer commit said signature tag =
+    check_commit c m committer commit said signature >>= after_change c m committer commit tag
 
 -- ---- lengths
 
@@ -134,7 +124,8 @@ enter_epoch_with m change secret keys tag = do
 abbrev pub IsShortContent : ContentView → Type 0
 IsShortContent (view_of.Application text) = Unit {0}
 IsShortContent (view_of.Proposal part) = length part ≤ input_limit
-IsShortContent (view_of.Commit proposals path) = (length proposals ≤ input_limit) × (length path ≤ input_limit)
+IsShortContent (view_of.Commit proposals path) =
+    (length proposals ≤ input_limit) × (length path ≤ input_limit)
 
 -- a message is shown
 unfoldable pub IsShown : PublicMessageView → Type 0
@@ -157,7 +148,8 @@ IsListedBelow n (listed.Reference reference) = Unit {0}
 -- where a group's extensions encode to fewer than 2^27 bytes, those that it carries after these proposals do
 abbrev pub KeepExtensionsShort : List Used → Type 0
 KeepExtensionsShort used =
-    (old : List Extension) → IsBelow (2 ^ 27) group_extensions old → IsBelow (2 ^ 27) group_extensions (extended old used)
+    (old : List Extension) → IsBelow (2 ^ 27) group_extensions old →
+    IsBelow (2 ^ 27) group_extensions (extensions_after old used)
 
 -- each proposal in full, and the path's leaf, encode to fewer than n bytes
 pub record IsShortCommit (n : ℕ) (commit : Commit) : Type 0 where

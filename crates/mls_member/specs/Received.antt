@@ -24,8 +24,7 @@ use Rattle.mls_view.specs.declared.public_message.PublicMessageView.{PublicMessa
 use Rattle.mls_suite.specs.Crypto.{Crypto}
 use Rattle.mls_tree.specs.Refusals.{RefusesOutright}
 use Rattle.mls_tree.specs.Tree.{Tree, term}
-use Rattle.mls_treekem_model.specs.Height.{keys_on}
-use Rattle.mls_treekem_model.specs.Keys.{PrivateKeys}
+use Rattle.mls_treekem_model.specs.Keys.{PrivateKeys, keys_on}
 use Rattle.mls_treekem_model.specs.Make.{climb_to}
 use Rattle.mls_treekem_model.specs.Open.{opened_path}
 use Rattle.mls_schedule.specs.Epoch.{init_secret, next_epoch_secret, confirmation_tag}
@@ -33,10 +32,10 @@ use Rattle.mls_model.specs.declared.effect.Effect.{Effect}
 use Rattle.mls_model.specs.Commit.{Edits}
 use Rattle.mls_model.specs.Member.{Member, follow_edits, without_pending}
 use Rattle.mls_model.specs.Messages.{is_content_signed, content_tag}
-use Rattle.mls_model.specs.Verdict.{bytes_verdict, commit_verdict, framing_checks, open_path_secret, own_pending, proposal_verdict}
-use Rattle.mls_commit.specs.Received.{Received}
+use Rattle.mls_model.specs.Verdict.{bytes_verdict, commit_verdict, framing_checks, open_path_secret, own_pending, proposal_verdict, message_verdict, new_proposal, enter_epoch_with}
+use Rattle.mls_commit.specs.Outcome.{Outcome}
 use Rattle.mls_member.specs.Faults.{number_of, Does}
-use Rattle.mls_member.specs.Process.{sender_of, check_sender, outer_checks, message_verdict, new_proposal, check_commit, edited_keys, follow_commit, enter_epoch_with}
+use Rattle.mls_member.specs.Process.{sender_of, check_sender, message_outer_checks, check_commit, edited_keys, follow_commit}
 use Rattle.mls_member.specs.declared.error.Refusal.{Refusal}
 use Rattle.mls_member.specs.declared.received_commit.Reached.{Reached}
 
@@ -47,13 +46,15 @@ abbrev pub TakesPending : {A : Type 0} → Member → Member → Option A → Ty
 TakesPending old new result = MatchOption result (new ≡ old) (λ _. new ≡ without_pending old)
 
 -- a member that wasn't removed follows its own pending commit, whatever memory there is
-abbrev pub FollowsOwn : {A : Type 0} → Member → List ℕ → Result A Refusal → Type 0
-FollowsOwn m bytes result = m.gone ≡ false → IsSome (own_pending m.pending bytes) → IsOk result
+abbrev pub FollowsPendingOutright : {A : Type 0} → Member → List ℕ → Result A Refusal → Type 0
+FollowsPendingOutright m bytes result = m.gone ≡ false → IsSome (own_pending m.pending bytes) → IsOk result
 
--- of other bytes, a member that wasn't removed answers faults of decoding and 41 to 46 whatever memory there is
+-- of other bytes, a member that wasn't removed answers faults of decoding and `NotPublicMessage` (41) to
+-- `BadMembershipTag` (46) whatever memory there is
 abbrev pub RefusesOthers : {A : Type 0} → Member → List ℕ → Result A Refusal → Type 0
 RefusesOthers m bytes result =
-    m.gone ≡ false → own_pending m.pending bytes ≡ None → RefusesOutright number_of (outer_checks m bytes) result
+    m.gone ≡ false → own_pending m.pending bytes ≡ None →
+    RefusesOutright number_of (message_outer_checks m bytes) result
 
 -- The call does what the bytes say, or refuses with the number of the first check that fails, memory aside.
 abbrev pub TakesBytes : Crypto → List ℕ → Member → Member → Result Effect Refusal → Type 0
@@ -65,56 +66,68 @@ TakesBytes c bytes old new result = Does (bytes_verdict c old bytes) old new res
 abbrev pub LendsLeaf : Result LeafNode ℕ → Result (Bor LeafNode) Refusal → Type 0
 LendsLeaf defined result = AnswersOutright (λ l. l.now) number_of defined result
 
--- The call lends the leaf of a message's sender, or refuses with 42 to 46. It takes no memory.
+-- The call lends the leaf of a message's sender, or refuses with `WrongGroup` (42) to `BadMembershipTag` (46). It takes
+-- no memory.
 abbrev pub LendsSender : Member → PublicMessageView → Result (Bor LeafNode) Refusal → Type 0
-LendsSender m view result = (shown : PublicMessage) → ShowsPublic view shown → LendsLeaf (sender_of m shown) result
+LendsSender m view result =
+    (shown : PublicMessage) → ShowsPublic view shown → LendsLeaf (sender_of m shown) result
 
--- 42 to 46 are answered whatever memory there is
+-- `WrongGroup` (42) to `BadMembershipTag` (46) are answered whatever memory there is
 abbrev pub RefusesSender : {A : Type 0} → Member → PublicMessageView → Result A Refusal → Type 0
 RefusesSender m view result =
-    (shown : PublicMessage) → ShowsPublic view shown → RefusesOutright number_of (sender_of m shown) result
+    (shown : PublicMessage) → ShowsPublic view shown →
+    RefusesOutright number_of (sender_of m shown) result
 
 -- it tells whether the membership tag is that of the message (RFC 9420, 6.2)
 abbrev pub TellsTag : Member → PublicMessageView → Bool → Type 0
 TellsTag m view b =
     (shown : PublicMessage) → ShowsPublic view shown →
-    b ≡ bytes_eq shown.membership_tag (content_tag m.epoch shown.content m.public.context)
+    b ≡ bytes_eq shown.membership_tag (content_tag m.epoch_secret shown.content m.public.context)
 
 -- it tells whether the signature is that of a signature key (RFC 9420, 6.1)
 abbrev pub TellsSigned : Crypto → Member → PublicMessageView → List ℕ → Bool → Type 0
 TellsSigned c m view key b =
-    (shown : PublicMessage) → ShowsPublic view shown → b ≡ is_content_signed c key shown.content m.public.context
+    (shown : PublicMessage) → ShowsPublic view shown →
+    b ≡ is_content_signed c key shown.content m.public.context
 
--- The signature and the sender pass their checks, or the call refuses with 47 or 48, memory aside.
-abbrev pub ChecksSender : {A : Type 0} → Crypto → Member → PublicMessageView → List ℕ → LeafNode → Result A Refusal → Type 0
+-- The signature and the sender pass their checks, or the call refuses with `BadSignature` (47) or `OwnUnknown` (48),
+-- memory aside.
+abbrev pub ChecksSender : {A : Type 0} → Crypto → Member → PublicMessageView → List ℕ → LeafNode →
+    Result A Refusal → Type 0
 ChecksSender c m view bytes leaf result =
     (shown : PublicMessage) → ShowsPublic view shown →
     Answers (λ _. passed) number_of (check_sender c m shown bytes leaf) result
 
 -- The message passes the checks of every message, or the call refuses with the number of the first that fails, memory
 -- aside.
-abbrev pub ChecksFraming : {A : Type 0} → Crypto → Member → PublicMessageView → List ℕ → Result A Refusal → Type 0
+abbrev pub ChecksFraming : {A : Type 0} → Crypto → Member → PublicMessageView → List ℕ →
+    Result A Refusal → Type 0
 ChecksFraming c m view bytes result =
     (shown : PublicMessage) → ShowsPublic view shown →
     Answers (λ _. passed) number_of (framing_checks c m shown bytes) result
 
 -- The call does what the message says, or refuses with the number of the first check that fails, memory aside.
-abbrev pub TakesMessage : Crypto → PublicMessageView → List ℕ → Member → Member → Result Effect Refusal → Type 0
+abbrev pub TakesMessage : Crypto → PublicMessageView → List ℕ → Member → Member →
+    Result Effect Refusal → Type 0
 TakesMessage c view bytes old new result =
-    (shown : PublicMessage) → ShowsPublic view shown → Does (message_verdict c old shown bytes) old new result
+    (shown : PublicMessage) → ShowsPublic view shown →
+    Does (message_verdict c old shown bytes) old new result
 
 -- ---- a proposal
 
 -- The call keeps a proposal that passes its checks, or refuses with the number of the first that fails, memory aside.
-abbrev pub KeepsNew : Crypto → List ℕ → ℕ → List ℕ → Proposal → Member → Member → Result Effect Refusal → Type 0
+abbrev pub KeepsNew : Crypto → List ℕ → ℕ → List ℕ → Proposal → Member → Member →
+    Result Effect Refusal → Type 0
 KeepsNew c reference sender bytes proposal old new result =
     Does (new_proposal c old reference sender bytes proposal) old new result
 
--- The call does what the message with this proposal says, or refuses with the number of the first check that fails, memory
--- aside.
-abbrev pub TakesProposal : Crypto → PublicMessageView → List ℕ → List ℕ → Member → Member → Result Effect Refusal → Type 0
+-- The call does what the message with this proposal says, or refuses with the number of the first check that fails,
+-- memory aside.
+abbrev pub TakesProposal : Crypto → PublicMessageView → List ℕ → List ℕ → Member → Member →
+    Result Effect Refusal → Type 0
 TakesProposal c view bytes part old new result =
-    (shown : PublicMessage) (made : Proposal) → ShowsPublic view shown → Spells proposal_format made part →
+    (shown : PublicMessage) (made : Proposal) → ShowsPublic view shown →
+    Spells proposal_format made part →
     Does (proposal_verdict c old shown.content bytes made) old new result
 
 -- ---- a commit
@@ -128,47 +141,57 @@ abbrev pub FollowsEdits : Option (Bor (List ℕ)) → Tree → PrivateKeys → P
 FollowsEdits own t old new = new ≡ follow_edits (option_copied own) (term t) old
 
 -- The call opens a commit's path with the keys after its edits, or refuses with the number of what fails, memory aside.
-abbrev pub OpensPath : Crypto → Edits → ℕ → UpdatePath → PrivateKeys → List ℕ → Result Reached Refusal → Type 0
+abbrev pub OpensPath : Crypto → Edits → ℕ → UpdatePath → PrivateKeys → List ℕ →
+    Result Reached Refusal → Type 0
 OpensPath c e committer path keys context result =
     Answers (λ r. climb_to r.secret r.keys) number_of
-    (opened_path c context e.added e.tree committer keys.leaf (keys_on e.tree keys) path.nodes) result
+    (opened_path c context e.added e.tree committer keys.leaf (keys_on e.tree keys) path.nodes)
+    result
 
--- The call answers what a commit makes of the public state and whether it removes the member, or refuses with the number of
--- the first check that fails, memory aside.
-abbrev pub ChecksCommit : Crypto → Member → ℕ → Commit → List ℕ → List ℕ → Result (Received × Bool) Refusal → Type 0
+-- The call answers what a commit makes of the public state and whether it removes the member, or refuses with the
+-- number of the first check that fails, memory aside.
+abbrev pub ChecksCommit : Crypto → Member → ℕ → Commit → List ℕ → List ℕ →
+    Result (Outcome × Bool) Refusal → Type 0
 ChecksCommit c m committer commit said signature result =
     (content : FramedContent) → framed_content.spell content ≡ said →
-    Answers (λ x. (x.0.change, x.1)) number_of (check_commit c m committer commit content signature) result
+    Answers (λ x. (x.0.change, x.1)) number_of (check_commit c m committer commit content signature)
+    result
 
 -- The call answers the commit secret and the member's keys in the new tree, or refuses with the number of what fails,
 -- memory aside.
-abbrev pub OpensSecret : Crypto → Member → ℕ → Received → Commit → Result Reached Refusal → Type 0
+abbrev pub OpensSecret : Crypto → Member → ℕ → Outcome → Commit → Result Reached Refusal → Type 0
 OpensSecret c m committer r commit result =
     Answers (λ r. climb_to r.secret r.keys) number_of
     (open_path_secret c m committer r.change (edited_keys m commit r.change) commit.path) result
 
 -- the epoch secret that a received commit leads to, by its commit secret (RFC 9420, 8)
-abbrev pub epoch_after : Member → List ℕ → Received → List ℕ
-epoch_after m secret r = next_epoch_secret (init_secret m.epoch) secret (group_context.spell r.change.context)
+abbrev pub epoch_after : Member → List ℕ → Outcome → List ℕ
+epoch_after m secret r =
+    next_epoch_secret (init_secret m.epoch_secret) secret (group_context.spell r.change.context)
 
 -- the confirmation tag that a received commit has in its epoch (RFC 9420, 6.1)
-abbrev pub tag_after : List ℕ → Received → List ℕ
+abbrev pub tag_after : List ℕ → Outcome → List ℕ
 tag_after epoch r = confirmation_tag epoch r.change.context.confirmed_transcript_hash
 
--- The call enters the next epoch, or refuses with 65, memory aside.
-abbrev pub EntersEpoch : Received → Reached → List ℕ → Member → Member → Result Effect Refusal → Type 0
+-- The call enters the next epoch, or refuses with `BadConfirmationTag` (65), memory aside.
+abbrev pub EntersEpoch : Outcome → Reached → List ℕ → Member → Member → Result Effect Refusal →
+    Type 0
 EntersEpoch r reached tag old new result =
     Does (enter_epoch_with old r.change reached.secret reached.keys tag) old new result
 
 -- The call follows a commit that isn't the last, or refuses with the number of what fails, memory aside.
-abbrev pub FollowsCommit : Crypto → ℕ → Commit → List ℕ → List ℕ → List ℕ → Member → Member → Result Effect Refusal → Type 0
+abbrev pub FollowsCommit : Crypto → ℕ → Commit → List ℕ → List ℕ → List ℕ → Member → Member →
+    Result Effect Refusal → Type 0
 FollowsCommit c committer commit said signature tag old new result =
     (content : FramedContent) → framed_content.spell content ≡ said →
     Does (follow_commit c old committer commit content signature tag) old new result
 
--- The call follows the commit that a message shows, or refuses with the number of the first check that fails, memory aside.
-abbrev pub TakesCommit : Crypto → PublicMessageView → List ℕ → List ℕ → Member → Member → Result Effect Refusal → Type 0
+-- The call follows the commit that a message shows, or refuses with the number of the first check that fails, memory
+-- aside.
+abbrev pub TakesCommit : Crypto → PublicMessageView → List ℕ → List ℕ → Member → Member →
+    Result Effect Refusal → Type 0
 TakesCommit c view proposals path old new result =
     (shown : PublicMessage) (commit : Commit) (tag : List ℕ) → ShowsPublic view shown →
     shown.content.body ≡ body_of.Commit commit tag → SpellsList commit.proposals proposals →
-    Spells (optional update_path) commit.path path → Does (commit_verdict c old shown.content commit tag) old new result
+    Spells (optional update_path) commit.path path →
+    Does (commit_verdict c old shown.content commit tag) old new result

@@ -5,7 +5,8 @@ use Rattle.std.specs.List.{AllByRecursion}
 use Rattle.std.specs.Str.{bytes_eq}
 use Rattle.mls_wire.specs.Checks.{require, ◌>>◌}
 use Rattle.mls_wire.specs.Reading.{◌>>=◌}
-use Rattle.mls_leaf.specs.Faults.{Refuses, Spells, whole}
+use Rattle.mls_wire.specs.Whole.{whole}
+use Rattle.mls_leaf.specs.Faults.{Refuses, Spells}
 use Rattle.mls_leaf.specs.Limits.{input_limit}
 use Rattle.mls_leaf.specs.Proposal.{proposal as proposal_format}
 use Rattle.mls_leaf.specs.declared.error.LeafError.{LeafError}
@@ -37,18 +38,26 @@ standing_of true = Removed
 
 -- a kept proposal as it is saved
 abbrev pub saved_proposal_of : KeptProposal → SavedProposal
-saved_proposal_of k = record { reference = k.reference; message = k.message; proposal = k.proposal; sender = k.sender; own_key = k.own_key }
+saved_proposal_of k =
+    record {
+      reference = k.reference;
+      message = k.message;
+      proposal = k.proposal;
+      sender = k.sender;
+      own_key = k.own_key;
+    }
 
 -- a pending commit as it is saved
 abbrev pub saved_pending_of : Pending → SavedPending
-saved_pending_of p = record { message = p.message; state = saved_state_of p.public p.epoch p.keys }
+saved_pending_of p =
+    record { message = p.message; state = saved_state_of p.public p.epoch_secret p.keys }
 
 -- a member as it is saved
 unfoldable pub saved_of : Member → SavedMember
 saved_of m =
     record {
       standing = standing_of m.gone;
-      state = saved_state_of m.public m.epoch m.keys;
+      state = saved_state_of m.public m.epoch_secret m.keys;
       signing = m.signing;
       kept = map saved_proposal_of m.kept;
       pending = option_map saved_pending_of m.pending;
@@ -66,11 +75,12 @@ Saves v (Err e) = Refuses (FitsInput v) e
 
 -- ---- loading
 
+-- whether a saved member was removed
 abbrev pub is_removed : Standing → Bool
 is_removed Present = false
 is_removed Removed = true
 
--- a kept proposal: 101 its reference or its key is no secret
+-- a kept proposal: `BadSecret` (101) its reference or its key is no secret
 unfoldable pub load_kept : SavedProposal → Result KeptProposal ℕ
 load_kept k = do
   reference ← secret_in k.reference
@@ -89,8 +99,9 @@ load_all_kept (x ∷ xs) = do
 unfoldable pub load_pending : Crypto → SavedPending → Result Pending ℕ
 load_pending c p = do
   s ← load_state c p.state
-  Ok (record { message = p.message; public = s.group; epoch = s.epoch; keys = s.keys })
+  Ok (record { message = p.message; public = s.group; epoch_secret = s.epoch; keys = s.keys })
 
+-- a pending commit, where one was saved
 abbrev pub load_if_pending : Crypto → Option SavedPending → Result (Option Pending) ℕ
 load_if_pending c None = Ok None
 load_if_pending c (Some p) = load_pending c p >>= λ q. Ok (Some q)
@@ -100,8 +111,8 @@ abbrev pub signs_as : Crypto → Option LeafNode → List ℕ → Bool
 signs_as c None signing = false
 signs_as c (Some x) signing = bytes_eq x.signature_key (c.sig_public signing)
 
--- a member that was saved: what it knows of its epoch; 101 its signature key is no secret, 104 its leaf has another; the
--- proposals that it keeps, and its pending commit
+-- a member that was saved: what it knows of its epoch; `BadSecret` (101) its signature key is no secret,
+-- `OtherKey` (104) its leaf has another; the proposals that it keeps, and its pending commit
 unfoldable pub load_member : Crypto → SavedMember → Result Member ℕ
 load_member c v = do
   now ← load_state c v.state
@@ -112,7 +123,7 @@ load_member c v = do
   Ok (record {
     gone = is_removed v.standing;
     public = now.group;
-    epoch = now.epoch;
+    epoch_secret = now.epoch;
     keys = now.keys;
     signing = signing;
     kept = kept;
@@ -125,7 +136,8 @@ load c bytes = whole saved_member input_limit bytes >>= load_member c
 
 -- faults of decoding are answered whatever memory there is
 abbrev pub RefusesUndecoded : {A : Type 0} → List ℕ → Result A LoadError → Type 0
-RefusesUndecoded bytes result = RefusesOutright number_of (whole saved_member input_limit bytes) result
+RefusesUndecoded bytes result =
+    RefusesOutright number_of (whole saved_member input_limit bytes) result
 
 -- ---- what was saved is loaded
 
@@ -148,7 +160,8 @@ LoadsAsWas c m bytes = IsGoodMember c m → load c bytes ≡ Ok m
 
 -- each kept proposal is spelled in fewer than n bytes
 abbrev pub AreSavedBelow : ℕ → List SavedProposal → Type 0
-AreSavedBelow n kept = AllByRecursion (λ (k : SavedProposal). IsBelow n proposal_format k.proposal) kept
+AreSavedBelow n kept =
+    AllByRecursion (λ (k : SavedProposal). IsBelow n proposal_format k.proposal) kept
 
 -- a saved pending commit is spelled in fewer than n bytes, if there is one
 abbrev pub IsBelowIfPending : ℕ → Option SavedPending → Type 0

@@ -5,7 +5,7 @@ ghost use Rattle.std.specs.List.{AllByRecursion};
 ghost use Rattle.mls_theorems.specs.SpelledParts.{FullFits};
 ghost use Rattle.mls_make.specs.CommitCall.{made_as, AreUsable};
 ghost use Rattle.mls_model.specs.MemberInvariant.{IsGoodMember};
-ghost use Rattle.mls_model.specs.Make.{listed_of};
+ghost use Rattle.mls_model.specs.Make.{list_item_of};
 ghost use Rattle.mls_member.specs.Answers.{AreShortItems, Commits, CommitsItems, Finds, MadeReaches, MakesCommit, RefusesLast, RefusesPending};
 ghost use Rattle.mls_member.specs.Committing.{keep_pending};
 ghost use Rattle.mls_member.specs.declared.error.Refusal.TheVariants.{Gone};
@@ -40,7 +40,8 @@ impl<S: Suite> Member<S> {
     /// Finds the proposals that a commit call uses: `UnknownReference` (60) a reference isn't kept (RFC 9420, 12.4).
     fn resolve_items<'a>(&'a self, items: &'a [Item]) -> Result<Vec<Used<'a>>, Refusal>
         requires { AreShortItems items.now }
-        ensures answer { Finds self.now.kept self.now.keys.leaf (map listed_of items.now) result }
+        ensures answer { Finds self.now.kept self.now.keys.leaf (map list_item_of items.now)
+            result }
         ensures short { IfOk result (λ v. AreUsable v.items) }
     {
         used_of_items(self.alloc, &self.kept, self.keys.leaf(), items)
@@ -52,7 +53,7 @@ impl<S: Suite> Member<S> {
         requires epoch { self.now.public.context.epoch + 1 < 2 ^ 64 }
         requires items { AreShortItems items.now }
         ensures answer { MakesCommit S.crypto self.now items.now path seed.now result }
-        ensures full { IfOk result (λ _. AllByRecursion FullFits (map listed_of items.now)) }
+        ensures full { IfOk result (λ _. AllByRecursion FullFits (map list_item_of items.now)) }
     {
         let used = self.resolve_items(items)?;
         let list = list_items(self.alloc, items)?;

@@ -4,7 +4,7 @@ ghost use Rattle.std.specs.Prelude.{◌≡◌, ◌^◌, map, IfOk};
 ghost use Rattle.mls_leaf.specs.GroupExtensions.{group_extensions};
 ghost use Rattle.mls_leaf.specs.Proposal.{proposal as proposal_format};
 ghost use Rattle.mls_leaf.specs.declared.proposal.Proposal.TheVariants.{Remove};
-ghost use Rattle.mls_model.specs.Make.{listed_of};
+ghost use Rattle.mls_model.specs.Make.{list_item_of};
 ghost use Rattle.mls_model.specs.Member.{find_proposal};
 ghost use Rattle.mls_public_group.specs.MessageLimit.{FitsIfShort};
 ghost use Rattle.mls_public_group.specs.Short.{IsBelow};
@@ -24,7 +24,7 @@ use std::alloc::{AllocError, Global};
 
 /// One proposal of a commit call, as the commit lists it.
 fn list_item(alloc: Global, item: &Item) -> Result<ProposalOrRef, AllocError>
-    ensures { IfOk result (λ p. p ≡ listed_of item.now) }
+    ensures { IfOk result (λ p. p ≡ list_item_of item.now) }
 {
     match item {
         Item::Full(proposal) => Ok(ProposalOrRef::Proposal(proposal.clone()?)),
@@ -37,7 +37,7 @@ fn list_item(alloc: Global, item: &Item) -> Result<ProposalOrRef, AllocError>
 
 /// The list of a commit.
 pub(crate) fn list_items(alloc: Global, items: &[Item]) -> Result<Items<ProposalOrRef>, AllocError>
-    ensures { IfOk result (λ v. v ≡ map listed_of items.now) }
+    ensures { IfOk result (λ v. v ≡ map list_item_of items.now) }
 {
     let mut list = Vec::new(alloc);
     for item in items {
@@ -80,7 +80,7 @@ fn resolve_item<'a>(
     item: &'a Item,
 ) -> Result<Used<'a>, Refusal>
     requires { IsShortItem item.now }
-    ensures answer { Gives (find_proposal kept.now committer (listed_of item.now)) result }
+    ensures answer { Gives (find_proposal kept.now committer (list_item_of item.now)) result }
     ensures short { IfOk result (λ u. IsUsable u) }
 {
     match item {
@@ -107,7 +107,7 @@ pub(crate) fn used_of_items<'a>(
     items: &'a [Item],
 ) -> Result<Vec<Used<'a>>, Refusal>
     requires { AreShortItems items.now }
-    ensures answer { Finds kept.now committer (map listed_of items.now) result }
+    ensures answer { Finds kept.now committer (map list_item_of items.now) result }
     ensures short { IfOk result (λ v. AreUsable v.items) }
 {
     let mut used = Vec::new(alloc);

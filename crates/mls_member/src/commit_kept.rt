@@ -2,7 +2,7 @@
 
 ghost use Rattle.std.specs.Prelude.{◌≡◌, true, Err, map, IfOk};
 ghost use Rattle.std.specs.List.{list_any};
-ghost use Rattle.mls_model.specs.Make.{listed_of};
+ghost use Rattle.mls_model.specs.Make.{list_item_of};
 ghost use Rattle.mls_model.specs.Member as model;
 ghost use Rattle.mls_model.specs.MemberInvariant.{IsGoodMember};
 ghost use Rattle.mls_member.specs.Answers.{AreShortItems, IsShortItem, RefusesLast, RefusesPending};
@@ -121,7 +121,7 @@ fn is_left_out(me: u32, all: &[KeptProposal], later: &[KeptProposal], kept: &Kep
 
 /// A kept proposal by its reference.
 fn name_kept(alloc: Global, kept: &KeptProposal) -> Result<Item, AllocError>
-    ensures item { IfOk result (λ i. listed_of i ≡ named kept.now) }
+    ensures item { IfOk result (λ i. list_item_of i ≡ named kept.now) }
     ensures short { IfOk result IsShortItem }
 {
     Ok(Item::Ref(Vec::from_slice(alloc, &kept.reference)?))
@@ -130,7 +130,7 @@ fn name_kept(alloc: Global, kept: &KeptProposal) -> Result<Item, AllocError>
 /// The kept proposals that the member at leaf `me` commits together.
 fn list_together(alloc: Global, kept: &[KeptProposal], me: u32) -> Result<Vec<Item>, AllocError>
     ensures list { IfOk result
-        (λ v. map listed_of v.items ≡ map named (together me kept.now kept.now)) }
+        (λ v. map list_item_of v.items ≡ map named (together me kept.now kept.now)) }
     ensures short { IfOk result (λ v. AreShortItems v.items) }
 {
     let mut items = Vec::new(alloc);
@@ -166,7 +166,7 @@ fn list_left_out(alloc: Global, kept: &[KeptProposal], me: u32) -> Result<Vec<Se
 impl<S: Suite> Member<S> {
     /// The kept proposals that it commits together, by their references.
     fn items_of_kept(&self) -> Result<Vec<Item>, AllocError>
-        ensures list { IfOk result (λ v. map listed_of v.items ≡ kept_list self.now) }
+        ensures list { IfOk result (λ v. map list_item_of v.items ≡ kept_list self.now) }
         ensures short { IfOk result (λ v. AreShortItems v.items) }
     {
         list_together(self.alloc, &self.kept, self.keys.leaf())

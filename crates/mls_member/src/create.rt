@@ -5,7 +5,7 @@ ghost use Rattle.mls_leaf.specs.Leaf.{leaf_node};
 ghost use Rattle.mls_public_group.specs.Short.{IsBelow, HasLeavesBelow, IsShortContext};
 ghost use Rattle.mls_member.specs.FirstEpoch.{first_public, context_with_leaf};
 ghost use Rattle.mls_wire.specs.Checks.{AnswersOutright, passed};
-ghost use Rattle.mls_model.specs.Messages.{is_within_limit};
+ghost use Rattle.mls_model.specs.Messages.{require_within_limit};
 ghost use Rattle.mls_tree.specs.Tree.{term};
 ghost use Rattle.mls_leaf.specs.Limits.{input_limit};
 ghost use Rattle.mls_tree_model.specs.Term.{Leaf};
@@ -29,9 +29,9 @@ use std::alloc::Global;
 use std::marker::PhantomData;
 
 /// `TooLong` (6) where what was made is larger than a message may be.
-#[tactic(auto, unfolding(mls_model::specs::Messages::is_within_limit))]
+#[tactic(auto, unfolding(mls_model::specs::Messages::require_within_limit))]
 fn require_within_limit(bytes: &[u8]) -> Result<(), Refusal>
-    ensures { AnswersOutright (λ _. passed) number_of (is_within_limit bytes.now) result }
+    ensures { AnswersOutright (λ _. passed) number_of (require_within_limit bytes.now) result }
 {
     know_bytes(bytes);
     if bytes.len() > INPUT_LIMIT {

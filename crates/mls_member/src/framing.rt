@@ -142,7 +142,7 @@ impl<S: Suite> Member<S> {
     ) -> Result<(), Refusal>
         requires { IsShortView view.now }
         ensures answer { ChecksFraming S.crypto self.now view.now bytes.now result }
-        // 42 to 46 come also when an allocation fails.
+        // `WrongGroup` (42) to `BadMembershipTag` (46) come also when an allocation fails.
         ensures outright { RefusesSender self.now view.now result }
     {
         let leaf = self.sender_of(view)?;

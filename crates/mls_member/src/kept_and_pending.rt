@@ -59,5 +59,5 @@ impl Model for Pending {
 
     ghost coded = { coded_pending };
 
-    ghost view = { λ p. record { message = p.message.items; public = p.group; epoch = p.epoch; keys = p.keys } };
+    ghost view = { λ p. record { message = p.message.items; public = p.group; epoch_secret = p.epoch; keys = p.keys } };
 }

@@ -118,7 +118,7 @@ impl<S: Suite> Member<S> {
     /// where the member doesn't keep a proposal that is named. A message that is no commit lists none.
     pub fn commit_proposals(&self, bytes: &[u8]) -> Result<Vec<ListedProposal>, Refusal>
         ensures answer { Lists (commit_proposals self.now bytes.now) result }
-        // All but 60 come also when an allocation fails.
+        // All but `UnknownReference` (60) come also when an allocation fails.
         ensures outright { RefusesOutright number_of (public_message bytes.now) result }
     {
         match MessageView::read(bytes)? {

@@ -47,7 +47,7 @@ impl<S: Suite> Model for Member<S> {
 
     ghost coded = { coded_member };
 
-    ghost view = { λ m. record { gone = m.gone; public = m.group; epoch = m.epoch; keys = m.keys; signing = m.signing; kept = m.kept.items; pending = m.pending } };
+    ghost view = { λ m. record { gone = m.gone; public = m.group; epoch_secret = m.epoch; keys = m.keys; signing = m.signing; kept = m.kept.items; pending = m.pending } };
 }
 
 impl<S: Suite> Member<S> {
@@ -67,7 +67,7 @@ impl<S: Suite> Member<S> {
 
     /// Lends the secrets of the epoch (RFC 9420, 8).
     pub fn secrets(&self) -> &Epoch
-        ensures { result.now ≡ self.now.epoch }
+        ensures { result.now ≡ self.now.epoch_secret }
     {
         &self.epoch
     }
@@ -137,7 +137,7 @@ impl<S: Suite> Member<S> {
     }
 
     /// The message of the proposal that it keeps under a reference (RFC 9420, 12.1).
-    pub fn kept(&self, reference: &[u8]) -> Option<&[u8]>
+    pub fn kept_message(&self, reference: &[u8]) -> Option<&[u8]>
         ensures { option_copied result ≡ kept_message self.now reference.now }
     {
         match kept_under(&self.kept, reference) {

@@ -5,7 +5,7 @@ ghost use Rattle.mls_model.specs.MemberInvariant.{IsGoodMember};
 ghost use Rattle.mls_model.specs.Verdict.{verdict, own_pending};
 ghost use Rattle.mls_member.specs.Faults.{Does};
 ghost use Rattle.mls_member.specs.declared.error.Refusal.TheVariants.{Gone};
-ghost use Rattle.mls_member.specs.Received.{FollowsOwn, RefusesOthers, TakesPending};
+ghost use Rattle.mls_member.specs.Received.{FollowsPendingOutright, RefusesOthers, TakesPending};
 
 use crate::error::Refusal;
 use crate::kept_and_pending::Pending;
@@ -43,8 +43,9 @@ impl<S: Suite> Member<S> {
         ensures verdict { Does (verdict S.crypto self.old bytes.now) self.old self.new result }
         ensures good { IsGoodMember S.crypto self.old → IsGoodMember S.crypto self.new }
         ensures gone { self.old.gone ≡ true → result ≡ Err Gone }
-        ensures own { FollowsOwn self.old bytes.now result }
-        // Of other bytes, faults of decoding and 41 to 46 come also when an allocation fails.
+        ensures own { FollowsPendingOutright self.old bytes.now result }
+        // Of other bytes, faults of decoding and `NotPublicMessage` (41) to `BadMembershipTag` (46) come also when an
+        // allocation fails.
         ensures outright { RefusesOthers self.old bytes.now result }
     {
         if self.gone {

@@ -10,7 +10,7 @@ ghost use Rattle.mls_leaf.specs.Limits.{input_limit};
 ghost use Rattle.mls_types.specs.UpdatePath.{update_path};
 ghost use Rattle.mls_model.specs.Member.{with_epoch, after_removal};
 ghost use Rattle.mls_model.specs.declared.effect.Effect.TheVariants as effect;
-ghost use Rattle.mls_commit.specs.Received.{KeepsOwnTree};
+ghost use Rattle.mls_commit.specs.Outcome.{KeepsOwnTree};
 ghost use Rattle.mls_public_group.specs.Short.{HasLeavesBelow};
 ghost use Rattle.mls_member.specs.Process.{IsShortView, IsShortCommit};
 ghost use Rattle.mls_member.specs.Received.{ChecksCommit, EntersEpoch, FollowsCommit, FollowsEdits, OpensPath, OpensSecret, SpellsList, TakesCommit, epoch_after, tag_after};
@@ -20,7 +20,7 @@ use crate::framing::sender_leaf;
 use crate::listed_proposal::read_list;
 use crate::member::Member;
 use crate::used_proposals::{find_proposals, own_key, removes};
-use mls_commit::{Received, change_of_commit};
+use mls_commit::{Outcome, change_of_commit};
 use mls_kdf::Secret;
 use mls_leaf::{Items, LeafError};
 use mls_model::Effect;
@@ -153,7 +153,7 @@ impl<S: Suite> Member<S> {
         commit: &Commit,
         said: &[u8],
         signature: &[u8],
-    ) -> Result<(Received, bool), Refusal>
+    ) -> Result<(Outcome, bool), Refusal>
         requires epoch { self.now.public.context.epoch + 1 < 2 ^ 64 }
         requires commit { IsShortCommit (2 ^ 27) commit.now }
         requires signature { length signature.now < 2 ^ 30 }
@@ -180,7 +180,7 @@ impl<S: Suite> Member<S> {
     fn open_path_secret(
         &self,
         committer: u32,
-        received: &Received,
+        received: &Outcome,
         commit: &Commit,
     ) -> Result<Reached, Refusal>
         ensures answer { OpensSecret S.crypto self.now committer received.now commit.now result }
@@ -202,11 +202,7 @@ impl<S: Suite> Member<S> {
     }
 
     /// The epoch that a commit secret leads to, and its confirmation tag (RFC 9420, 8 and 8.1).
-    fn next_epoch(
-        &self,
-        received: &Received,
-        secret: &Secret,
-    ) -> Result<(Epoch, Secret), AllocError>
+    fn next_epoch(&self, received: &Outcome, secret: &Secret) -> Result<(Epoch, Secret), AllocError>
         ensures epoch { IfOk result (λ r. r.0 ≡ epoch_after self.now secret.now received.now) }
         ensures tag { IfOk result (λ r. r.1 ≡ tag_after r.0 received.now) }
     {
@@ -218,10 +214,10 @@ impl<S: Suite> Member<S> {
     }
 
     /// Enters the next epoch: `BadConfirmationTag` (65) where the confirmation tag isn't that of it (RFC 9420, 8.1).
-    #[tactic(auto, unfolding(crate::specs::Process::enter_epoch_with, mls_model::specs::Member::with_epoch))]
+    #[tactic(auto, unfolding(mls_model::specs::Verdict::enter_epoch_with, mls_model::specs::Member::with_epoch))]
     fn enter_epoch(
         &mut self,
-        received: Received,
+        received: Outcome,
         reached: Reached,
         tag: &[u8],
     ) -> Result<Effect, Refusal>
@@ -286,8 +282,9 @@ impl<S: Suite> Member<S> {
     }
 
     /// Follows a commit: `EpochEnd` (66) no epoch comes after this, `UnknownReference` (60) a reference isn't kept,
-    /// then the checks of all that is public. There a member that is removed stops; others take the path's secret, 32
-    /// to 34, and `BadConfirmationTag` (65) where the confirmation tag isn't that of the new epoch (RFC 9420, 12.4.2).
+    /// then the checks of all that is public. There a member that is removed stops; others take the path's secret,
+    /// `OpenFailed` (32) to `PathKeyMismatch` (34), and `BadConfirmationTag` (65) where the confirmation tag isn't that
+    /// of the new epoch (RFC 9420, 12.4.2).
     pub(crate) fn commit_verdict(
         &mut self,
         view: &PublicMessageView<'_>,

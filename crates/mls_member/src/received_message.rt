@@ -2,7 +2,7 @@
 
 ghost use Rattle.mls_tree.specs.Refusals.{RefusesOutright};
 ghost use Rattle.mls_member.specs.Faults.{number_of};
-ghost use Rattle.mls_member.specs.Process.{outer_checks, IsShortView};
+ghost use Rattle.mls_member.specs.Process.{message_outer_checks, IsShortView};
 ghost use Rattle.mls_member.specs.Received.{RefusesSender, TakesBytes, TakesMessage};
 
 use crate::error::Refusal;
@@ -16,8 +16,9 @@ impl<S: Suite> Member<S> {
     /// content (RFC 9420, 6).
     pub(crate) fn bytes_verdict(&mut self, bytes: &[u8]) -> Result<Effect, Refusal>
         ensures verdict { TakesBytes S.crypto bytes.now self.old self.new result }
-        // Decoding, and 41 to 46, come also when an allocation fails.
-        ensures outright { RefusesOutright number_of (outer_checks self.old bytes.now) result }
+        // Decoding, and `NotPublicMessage` (41) to `BadMembershipTag` (46), come also when an allocation fails.
+        ensures outright { RefusesOutright number_of (message_outer_checks self.old bytes.now)
+            result }
     {
         match MessageView::read(bytes)? {
             MessageView::PublicMessage(view) => self.message_verdict(&view, bytes),

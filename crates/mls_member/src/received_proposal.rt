@@ -29,7 +29,7 @@ impl<S: Suite> Member<S> {
     }
 
     /// Keeps a proposal that passes its checks, under its reference.
-    #[tactic(auto, unfolding(crate::specs::Process::new_proposal, mls_model::specs::Member::with_kept))]
+    #[tactic(auto, unfolding(mls_model::specs::Verdict::new_proposal, mls_model::specs::Member::with_kept))]
     fn keep_proposal(
         &mut self,
         reference: Secret,

@@ -4,7 +4,7 @@ ghost use Rattle.std.specs.Prelude.{◌≡◌, ◌^◌, IfOk};
 ghost use Rattle.mls_leaf.specs.KeyPackage.{key_package as key_package_format};
 ghost use Rattle.mls_leaf.specs.declared.proposal.Proposal.TheVariants.{Add};
 ghost use Rattle.mls_types.specs.declared.commit.ProposalOrRef.TheVariants.{Proposal as in_full};
-ghost use Rattle.mls_model.specs.Make.{listed_of};
+ghost use Rattle.mls_model.specs.Make.{list_item_of};
 ghost use Rattle.mls_public_group.specs.Short.{IsBelow};
 ghost use Rattle.mls_member.specs.Answers.{IsShortItem};
 ghost use Rattle.mls_member.specs.ShortPackages.{TestsLength};
@@ -64,7 +64,7 @@ impl ShortKeyPackage {
 
     /// The proposal that adds it, in full, for `commit` (RFC 9420, 12.1.1).
     pub fn addition(&self) -> Result<Item, OutOfMemory>
-        ensures item { IfOk result (λ i. listed_of i ≡ in_full (Add self.now)) }
+        ensures item { IfOk result (λ i. list_item_of i ≡ in_full (Add self.now)) }
         ensures short { IfOk result IsShortItem }
     {
         Ok(Item::Full(Proposal::Add(self.key_package.clone()?)))

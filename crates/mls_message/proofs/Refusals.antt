@@ -10,7 +10,7 @@ use Rattle.mls_leaf.specs.declared.error.LeafError.{LeafError}
 use Rattle.mls_leaf.specs.declared.error.LeafError.TheVariants.{Wire, BadTag, UnsupportedCredential, UnsupportedProposal, NotRising, ExtensionNotAllowed}
 use Rattle.mls_types.specs.Content.{framed_content}
 use Rattle.mls_types.specs.Signed.{signed_content}
-use Rattle.mls_types.specs.SignedParts.{framed, auth_data, signed_with}
+use Rattle.mls_types.specs.SignedParts.{framed_content_of, auth_data, with_signature}
 use Rattle.mls_types.proofs.SignedParts.{signed_content_spelled, framed_signed_with}
 use Rattle.mls_types.specs.declared.content.FramedContent.{FramedContent}
 use Rattle.mls_types.specs.declared.signed.SignedContent.{SignedContent}
@@ -26,7 +26,7 @@ use Rattle.mls_message.proofs.TextLaws.{sent_length}
 -- ---- by its content
 
 -- a content is no longer than its message
-content_within : (m : Member) (v : SignedContent) → length (framed_content.spell (framed v)) ≤ length (message_by m v)
+content_within : (m : Member) (v : SignedContent) → length (framed_content.spell (framed_content_of v)) ≤ length (message_by m v)
 content_within m v =
     omega (
       arith,
@@ -34,17 +34,17 @@ content_within m v =
       last_within (uint w16 1) (uint w16 1 ++ signed_content.spell v),
       last_within (uint w16 1) (signed_content.spell v),
       ap length (signed_content_spelled v),
-      first_within (framed_content.spell (framed v)) (auth_data v),
+      first_within (framed_content.spell (framed_content_of v)) (auth_data v),
     )
 
-framed_within : (m : Member) (said : FramedContent) (signature tag : List ℕ) → length (framed_content.spell said) ≤ length (message_by m (signed_with said signature tag))
+framed_within : (m : Member) (said : FramedContent) (signature tag : List ℕ) → length (framed_content.spell said) ≤ length (message_by m (with_signature said signature tag))
 framed_within m said signature tag =
-    subst (λ (x : FramedContent). length (framed_content.spell x) ≤ length (message_by m (signed_with said signature tag))) (framed_signed_with said signature tag) (content_within m (signed_with said signature tag))
+    subst (λ (x : FramedContent). length (framed_content.spell x) ≤ length (message_by m (with_signature said signature tag))) (framed_signed_with said signature tag) (content_within m (with_signature said signature tag))
 
 -- a content that is longer than the limit is refused
 pub refused_long : (m : Member) (said : FramedContent) (e : LeafError) → IsLong (framed_content.spell said) e → IsRefused m said e
 refused_long m said e long = λ no signature tag.
-    rw (long no).0 (past_limit (message_by m (signed_with said signature tag)) (omega (arith, (long no).1, framed_within m said signature tag)))
+    rw (long no).0 (past_limit (message_by m (with_signature said signature tag)) (omega (arith, (long no).1, framed_within m said signature tag)))
 
 -- what has no spelling is longer
 unfit_long : (text : List ℕ) (P : Type 0) → (length text < 2 ^ 30 → P) → (P → ⊥) → input_limit < length text

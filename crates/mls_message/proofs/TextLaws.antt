@@ -13,9 +13,9 @@ use Rattle.mls_types.specs.Message.{mls_message}
 use Rattle.mls_types.specs.Reference.{proposal_reference}
 use Rattle.mls_types.specs.PublicMessage.{wire_format, public_message, authenticated_content}
 use Rattle.mls_types.specs.Signed.{signed_content}
-use Rattle.mls_types.specs.SignedParts.{framed, auth_data}
+use Rattle.mls_types.specs.SignedParts.{framed_content_of, auth_data}
 use Rattle.mls_types.proofs.SignedParts.{signed_content_spelled}
-use Rattle.mls_types.specs.Signing.{framed_content_tbs, authenticated_content_tbm}
+use Rattle.mls_types.specs.Signing.{framed_content_tbs, signed_pieces, authenticated_content_tbm}
 use Rattle.mls_types.specs.declared.content.FramedContent.{FramedContent}
 use Rattle.mls_types.specs.declared.message.MlsMessage.TheVariants as message
 use Rattle.mls_types.specs.declared.public_message.WireFormat.TheVariants as format
@@ -23,7 +23,7 @@ use Rattle.mls_types.specs.declared.signed.SignedContent.{SignedContent}
 use Rattle.mls_schedule.specs.Epoch.{membership_tag}
 use Rattle.mls_model.specs.Member.{Member}
 use Rattle.mls_model.specs.Messages.{content_tag, message_by, reference_of}
-use Rattle.mls_message.specs.Pieces.{signed_pieces, untagged, IsUntagged}
+use Rattle.mls_message.specs.Pieces.{untagged, IsUntagged}
 use Rattle.mls_public_group.specs.MessageLimit.{limited_text}
 use Rattle.mls_message.specs.Speaks.{Speaks}
 use Rattle.mls_message.specs.declared.speaker.Speaker.{Speaker}
@@ -58,7 +58,7 @@ version_within v = omega (arith, length-append (uint w16 1) (uint w16 1 ++ signe
 
 -- the text in its two parts: up to the FramedContentAuthData, and that
 abbrev front_of : SignedContent → List ℕ
-front_of v = uint w16 1 ++ uint w16 1 ++ framed_content.spell (framed v)
+front_of v = uint w16 1 ++ uint w16 1 ++ framed_content.spell (framed_content_of v)
 
 two_parts : (v : SignedContent) → untagged v ≡ front_of v ++ auth_data v
 two_parts v = rw (signed_content_spelled v) (simp append_assoc)
@@ -82,7 +82,7 @@ tagged_is v context = rw (front_is v, auth_is v, format_is) refl
 
 -- a member's tag of the two parts with the context between them
 pub tag_is : (m : Member) (s : Speaker) (v : SignedContent) (text front context back : List ℕ) (n k : ℕ) → Speaks m s → text ≡ untagged v → n ≡ length text → k ≡ length (auth_data v)
-    → front ≡ take (n - k) text → context ≡ group_context.spell s.group.now.context → back ≡ drop (n - k) text → membership_tag s.epoch.now (front ++ context ++ back) ≡ content_tag m.epoch v m.public.context
+    → front ≡ take (n - k) text → context ≡ group_context.spell s.group.now.context → back ≡ drop (n - k) text → membership_tag s.epoch.now (front ++ context ++ back) ≡ content_tag m.epoch_secret v m.public.context
 unfolding content_tag
 tag_is m s v text front context back n k speaks t e l f g b = rw (f, g, b, e, l, t, speaks.epoch, speaks.public) (ap (membership_tag s.epoch.now) (tagged_is v s.group.now.context))
 
@@ -93,9 +93,9 @@ unfolding mls_message public_message
 message_spelled v tag = refl
 
 -- a message is the text, and the tag behind it
-sent_is : (m : Member) (v : SignedContent) → message_by m v ≡ untagged v ++ opaque (content_tag m.epoch v m.public.context)
+sent_is : (m : Member) (v : SignedContent) → message_by m v ≡ untagged v ++ opaque (content_tag m.epoch_secret v m.public.context)
 unfolding message_by
-sent_is m v = message_spelled v (content_tag m.epoch v m.public.context) ∙ simp append_assoc
+sent_is m v = message_spelled v (content_tag m.epoch_secret v m.public.context) ∙ simp append_assoc
 
 tag_is_32 : (epoch : List ℕ) (v : SignedContent) (context : GroupContext) → length (content_tag epoch v context) ≡ 32
 unfolding content_tag membership_tag
@@ -107,11 +107,11 @@ behind_header tag e = rw e (omega (arith, e))
 
 pub sent_length : (m : Member) (v : SignedContent) → length (message_by m v) ≡ length (untagged v) + 33
 sent_length m v =
-    let tag : List ℕ = content_tag m.epoch v m.public.context in
-    omega (arith, ap length (sent_is m v), length-append (untagged v) (opaque tag), behind_header tag (tag_is_32 m.epoch v m.public.context))
+    let tag : List ℕ = content_tag m.epoch_secret v m.public.context in
+    omega (arith, ap length (sent_is m v), length-append (untagged v) (opaque tag), behind_header tag (tag_is_32 m.epoch_secret v m.public.context))
 
 -- code's message is the member's
-pub message_is : (m : Member) (v : SignedContent) (text tag bytes : List ℕ) → IsUntagged v text → tag ≡ content_tag m.epoch v m.public.context → bytes ≡ text ++ opaque tag → IsBytes bytes → limited_text (message_by m v) ≡ Ok bytes
+pub message_is : (m : Member) (v : SignedContent) (text tag bytes : List ℕ) → IsUntagged v text → tag ≡ content_tag m.epoch_secret v m.public.context → bytes ≡ text ++ opaque tag → IsBytes bytes → limited_text (message_by m v) ≡ Ok bytes
 message_is m v text tag bytes u t e is_bytes =
     let is : message_by m v ≡ bytes = sent_is m v ∙ sym (e ∙ rw (u.spelled, t) refl) in
     rw is (limited_within bytes is_bytes (omega (arith, ap length is, sent_length m v, u.room, ap length u.spelled)))

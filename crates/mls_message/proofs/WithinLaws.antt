@@ -9,9 +9,10 @@ use Rattle.mls_leaf.specs.declared.proposal.Proposal.{Proposal}
 use Rattle.mls_types.specs.GroupContext.{group_context}
 use Rattle.mls_types.specs.declared.group_context.GroupContext.{GroupContext}
 use Rattle.mls_types.specs.Content.{sender, content, framed_content}
-use Rattle.mls_types.specs.SignedParts.{signed_with, TagFits, tagged_body}
+use Rattle.mls_types.specs.SignedParts.{with_signature, TagFits, body_with_tag}
 use Rattle.mls_types.proofs.SignedParts.{framed_signed_with, signed_content_fits}
 use Rattle.mls_types.specs.Signed.{signed_content}
+use Rattle.mls_types.specs.Signing.{signed_pieces}
 use Rattle.mls_types.specs.declared.content.Content.{Content}
 use Rattle.mls_types.specs.declared.content.Content.TheVariants as says
 use Rattle.mls_types.specs.declared.content.FramedContent.{FramedContent}
@@ -19,7 +20,6 @@ use Rattle.mls_types.specs.declared.content.Sender.TheVariants as by
 use Rattle.mls_public_group.proofs.Lengths.{first_within, last_within, length-uint16, context_length}
 use Rattle.mls_public_group.proofs.Limits.{within_limit}
 use Rattle.mls_public_group.specs.Short.{IsShortContext}
-use Rattle.mls_message.specs.Pieces.{signed_pieces}
 use Rattle.mls_public_group.specs.MessageLimit.{FitsIfShort, limited_text}
 
 -- ---- texts within the limit
@@ -45,15 +45,15 @@ signed_short said v le s =
 
 -- ---- what has a spelling
 
-tag_fits : (x : Content) (tag : List ℕ) → length tag < 2 ^ 30 → TagFits (tagged_body x tag)
+tag_fits : (x : Content) (tag : List ℕ) → length tag < 2 ^ 30 → TagFits (body_with_tag x tag)
 tag_fits (says.Application text) tag lt = tt
 tag_fits (says.Proposal made) tag lt = tt
 tag_fits (says.Commit made) tag lt = lt
 
 -- a signed content has one, if its content has
-pub signed_fits : (v : FramedContent) (signature tag : List ℕ) → framed_content.Fits v → length signature < 2 ^ 30 → length tag < 2 ^ 30 → signed_content.Fits (signed_with v signature tag)
+pub signed_fits : (v : FramedContent) (signature tag : List ℕ) → framed_content.Fits v → length signature < 2 ^ 30 → length tag < 2 ^ 30 → signed_content.Fits (with_signature v signature tag)
 signed_fits v signature tag f s t =
-    signed_content_fits (signed_with v signature tag) (subst framed_content.Fits (sym (framed_signed_with v signature tag)) f) (s, tag_fits v.content tag t)
+    signed_content_fits (with_signature v signature tag) (subst framed_content.Fits (sym (framed_signed_with v signature tag)) f) (s, tag_fits v.content tag t)
 
 -- what a member says has one, if it is short
 pub said_fits : (group : List ℕ) (at leaf : ℕ) (more : List ℕ) (x : Content) → at < 2 ^ 64 → leaf < 2 ^ 32 → FitsIfShort content x →

@@ -1,4 +1,4 @@
--- Of what pieces a member's message is spelled and signed.
+-- Of what pieces a member's message is spelled.
 use Rattle.std.specs.Prelude.{◌≡◌, ◌≢◌, ℕ, ◌+◌, ◌<◌, ◌≤◌, List, ◌++◌, length, Result, Err, MatchResult}
 use Rattle.std.specs.Global.{Vec}
 use Rattle.std.specs.Int.{w16}
@@ -12,10 +12,6 @@ use Rattle.mls_types.specs.declared.signed.SignedContent.{SignedContent}
 use Rattle.mls_model.specs.Member.{Member}
 use Rattle.mls_model.specs.Messages.{message_by}
 use Rattle.mls_public_group.specs.MessageLimit.{IsLong, limited_text}
-
--- FramedContentTBS (RFC 9420, 6.1): version 1, wire format 1, the spellings of the FramedContent and of the GroupContext
-abbrev pub signed_pieces : List ℕ → List ℕ → List ℕ
-signed_pieces said context = uint w16 1 ++ uint w16 1 ++ said ++ context
 
 -- the message of a signed content up to its membership tag (RFC 9420, 6 and 6.2): version 1, wire format 1, the content
 abbrev pub untagged : SignedContent → List ℕ
@@ -35,12 +31,14 @@ pub record IsUntagged (v : SignedContent) (text : List ℕ) : Type 0 where
 abbrev pub IsTooLarge : SignedContent → LeafError → Type 0
 IsTooLarge v e = number_of e ≢ 1 → (m : Member) → limited_text (message_by m v) ≡ Err (number_of e)
 
--- There is room for so many bytes more behind a text, or the call refuses with 6. It takes no memory.
+-- There is room for so many bytes more behind a text, or the call refuses with `TooLong` (6). It takes no memory.
 abbrev pub HasRoom : {A : Type 0} → List ℕ → ℕ → Result A LeafError → Type 0
 HasRoom text more result =
-    MatchResult result (λ _. length text + more ≤ input_limit) (λ e. (number_of e ≡ 6) × (input_limit < length text + more))
+    MatchResult result (λ _. length text + more ≤ input_limit)
+    (λ e. (number_of e ≡ 6) × (input_limit < length text + more))
 
 -- The call answers the one spelling of a value, which is no larger than a message may be, or refuses it.
 abbrev pub SpellsWithin : {V : Type 0} → Format V → V → Result (Vec ℕ) LeafError → Type 0
 SpellsWithin format v result =
-    MatchResult result (λ b. Spells format v b.items × (length b.items ≤ input_limit)) (IsLong (format.spell v))
+    MatchResult result (λ b. Spells format v b.items × (length b.items ≤ input_limit))
+    (IsLong (format.spell v))

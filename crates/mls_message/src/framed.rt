@@ -4,8 +4,8 @@ ghost use Rattle.std.specs.Prelude.{◌≡◌, ◌<◌, ◌≤◌, ◌^◌, leng
 ghost use Rattle.mls_leaf.specs.Limits.{input_limit};
 ghost use Rattle.mls_types.specs.Content.{content as content_format, framed_content};
 ghost use Rattle.mls_types.specs.Signed.{signed_content};
-ghost use Rattle.mls_types.specs.SignedParts.{signed_with};
-ghost use Rattle.mls_message.specs.Pieces.{signed_pieces};
+ghost use Rattle.mls_types.specs.SignedParts.{with_signature};
+ghost use Rattle.mls_types.specs.Signing.{signed_pieces};
 ghost use Rattle.mls_public_group.specs.MessageLimit.{FitsIfShort};
 ghost use Rattle.mls_message.specs.Sending.{Frames, IsSaidBy, Sends, Signs};
 
@@ -102,7 +102,7 @@ impl Framed {
     pub fn with_signature(self, signature: Vec<u8>, confirmation_tag: Vec<u8>) -> SignedContent
         requires signature { length signature.items < 2 ^ 30 }
         requires tag { length confirmation_tag.items < 2 ^ 30 }
-        ensures content { result ≡ signed_with self signature.items confirmation_tag.items }
+        ensures content { result ≡ with_signature self signature.items confirmation_tag.items }
         ensures fits { signed_content.Fits result }
     {
         let Framed { content, .. } = self;

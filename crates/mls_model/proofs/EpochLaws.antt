@@ -58,5 +58,5 @@ advanced_active c m after bytes epoch h = by_case (did_take c m bytes (Advanced 
     active = not-true m.gone (did_take c m bytes (Advanced epoch, after) h).active
 
     by_case : DidPending m bytes (Advanced epoch, after) ⊎ DidOther c m bytes (Advanced epoch, after) → Arrives (Advanced epoch, after)
-    by_case (inl d) = subst Arrives d.is (arrives m d.pending.public d.pending.epoch d.pending.keys active)
+    by_case (inl d) = subst Arrives d.is (arrives m d.pending.public d.pending.epoch_secret d.pending.keys active)
     by_case (inr d) = let r = did_receive c m bytes (Advanced epoch, after) d.is in arrives_by c m bytes r.said r.said.content.body (Advanced epoch, after) active r.did

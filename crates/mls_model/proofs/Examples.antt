@@ -7,8 +7,9 @@ use Rattle.mls_tree_model.specs.Keys.{gather}
 use Rattle.mls_tree_model.specs.Good.{is_within, has_distinct_keys, has_distinct_clients}
 use Rattle.mls_tree_model.specs.Way.{way}
 use Rattle.mls_tree.specs.Tree.{add_answer, remove_answer}
-use Rattle.mls_treekem_model.specs.Follow.{key_above, follow_edit}
-use Rattle.mls_model.specs.Proposals.{full_checks, updates, updated_leaves, removed_leaves, adds, extension_lists, extended, is_path_required}
+use Rattle.mls_treekem_model.specs.Follow.{follow_edit}
+use Rattle.mls_treekem_model.specs.Keys.{key_above}
+use Rattle.mls_model.specs.Proposals.{full_checks, updates, updated_leaves, removed_leaves, adds, extension_lists, extensions_after, is_path_required}
 use Rattle.mls_model.specs.PublicState.{provisional_context}
 use Rattle.mls_model.specs.Commit.{apply_updates, apply_removes, apply_adds, apply_proposals}
 use Rattle.mls_model.specs.Member.{kept_under, find_proposals, keys_above_leaf, leaf_key_or, with_keys, follow_edits}
@@ -71,15 +72,15 @@ unfolding is_path_required
 list_asks_for_path c p said signature e = refl
 
 pub list_replaces : ListReplaces
-unfolding provisional_context extended extension_lists
+unfolding provisional_context extensions_after extension_lists
 list_replaces context t = refl
 
 pub list_clears : ListClears
-unfolding provisional_context extended extension_lists
+unfolding provisional_context extensions_after extension_lists
 list_clears context t = refl
 
 pub list_stays : ListStays
-unfolding provisional_context extended extension_lists
+unfolding provisional_context extensions_after extension_lists
 list_stays context t = refl
 
 pub uses_kept : UsesKept

@@ -1,7 +1,7 @@
 -- What a member found in a message that it took.
 use Rattle.std.specs.Prelude.{◌≡◌, ◌⊎◌, ℕ, ◌^◌, ◌-◌, nat_lt, true, not, List, None, Ok}
 use Rattle.mls_leaf.specs.declared.proposal.Proposal.{Proposal}
-use Rattle.mls_types.specs.SignedParts.{framed}
+use Rattle.mls_types.specs.SignedParts.{framed_content_of}
 use Rattle.mls_types.specs.declared.commit.Commit.{Commit}
 use Rattle.mls_types.specs.declared.message.MlsMessage.TheVariants as message
 use Rattle.mls_types.specs.declared.public_message.PublicMessage.{PublicMessage}
@@ -26,7 +26,7 @@ pub record CommitDid (c : Crypto) (m : Member) (v : SignedContent) (commit : Com
   pub used : List Used
   pub uses : find_proposals m.kept (sender_leaf v.sender) commit.proposals ≡ Ok used
   pub change : Change
-  pub change_is : change_of_commit c m.public (sender_leaf v.sender) used commit (framed v) v.signature ≡ Ok change
+  pub change_is : change_of_commit c m.public (sender_leaf v.sender) used commit (framed_content_of v) v.signature ≡ Ok change
   pub did : WasRemoved m used x ⊎ HasFollowed c m v commit tag used change x
 
 -- ---- any message

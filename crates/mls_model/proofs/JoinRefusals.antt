@@ -4,7 +4,7 @@ use Rattle.std.specs.Prelude.{codes, find}
 use Rattle.std.specs.Str.{bytes_eq}
 use Rattle.std.proofs.lemmas.Bool.{or_left, or_right}
 use Rattle.mls_wire.specs.Checks.{require_some}
-use Rattle.mls_leaf.specs.Faults.{whole}
+use Rattle.mls_wire.specs.Whole.{whole}
 use Rattle.mls_leaf.specs.Limits.{input_limit}
 use Rattle.mls_leaf.specs.WholeLaws.{is_input_fault}
 use Rattle.mls_leaf.proofs.WholeLaws.{is_input_answered}
@@ -36,8 +36,8 @@ use Rattle.mls_schedule.specs.Epoch.{welcome_key, welcome_nonce, epoch_secret, c
 use Rattle.mls_model.specs.Proposals.{package_reference}
 use Rattle.mls_model.specs.Messages.{decode_message, are_bytes}
 use Rattle.mls_model.specs.Candidate.{Candidate}
-use Rattle.mls_model.specs.OpenedWelcome.{Opened, welcome_in, or_fault, is_none_or_32, opened_secrets, opened_welcome}
-use Rattle.mls_model.specs.Join.{joined_tree, signer_checks, place_of, joined_keys, member_of, join_verdict}
+use Rattle.mls_model.specs.OpenedWelcome.{Opened, welcome_in, or_fault, is_none_or_32, check_secret_lengths, opened_secrets, open_group_info, open_for_candidate, opened_welcome}
+use Rattle.mls_model.specs.Join.{joined_tree, signer_checks, place_of, joined_keys, enter_group, member_of, join_verdict}
 use Rattle.mls_model.specs.Refusals.{join_numbers, JoinNumbers}
 use Rattle.mls_model.proofs.RefusedSteps.{is_one, bind_refused, then_refused, test_refused, last_refused, given_refused, if_refused}
 
@@ -48,7 +48,7 @@ or_refused m (Ok x) n h = absurd cc
 or_refused m (Err e) n h = cc
 
 secrets_refused : (c : Crypto) (k : Candidate) (w : Welcome) (entry : EncryptedGroupSecrets) (n : ℕ) → opened_secrets c k w entry ≡ Err n → 73 ≡ n
-unfolding opened_secrets
+unfolding opened_secrets check_secret_lengths
 secrets_refused c k w entry n h =
     let opened = decrypt_with_label c k.init (codes "Welcome") w.encrypted_group_info entry.encrypted_group_secrets.kem_output entry.encrypted_group_secrets.ciphertext in
     bind_refused (require_some 73 opened) _ n h (given_refused 73 opened n) (λ bytes h1.
@@ -60,7 +60,7 @@ in_join : (m n : ℕ) → has join_numbers m ≡ true → m ≡ n → (is_input_
 in_join m n h e = or_right (is_input_fault n) (has join_numbers n) (is_one join_numbers m n h e)
 
 opening_refused : (c : Crypto) (k : Candidate) (bytes : List ℕ) (n : ℕ) → opened_welcome c k bytes ≡ Err n → (is_input_fault n || has join_numbers n) ≡ true
-unfolding opened_welcome decode_message has
+unfolding opened_welcome open_for_candidate open_group_info decode_message has
 opening_refused c k bytes n h =
     bind_refused (whole mls_message input_limit bytes) _ n h (λ e. or_left (is_input_fault n) (has join_numbers n) (is_input_answered mls_message input_limit mls_message_faults bytes n e)) (λ outer h1.
     bind_refused (require_some 70 (welcome_in outer)) _ n h1 (λ e. in_join 70 n refl (given_refused 70 (welcome_in outer) n e)) (λ w h2.
@@ -149,7 +149,7 @@ keys_refused c t signer alone (Some secret) n h =
 -- ---- the whole
 
 member_refused : (c : Crypto) (k : Candidate) (o : Opened) (n : ℕ) → member_of c k o ≡ Err n → has join_numbers n ≡ true
-unfolding member_of has
+unfolding member_of enter_group has
 member_refused c k o n h =
     bind_refused (joined_tree c o.info) _ n h (tree_refused c o.info n) (λ t h1.
     then_refused (signer_checks c k o.info t) _ n h1 (signer_refused c k o.info t n) (λ h2.

@@ -16,7 +16,7 @@ use Rattle.mls_suite.specs.Crypto.{Crypto}
 use Rattle.mls_model.specs.declared.effect.Effect.{Effect}
 use Rattle.mls_model.specs.Member.{Pending, Member}
 use Rattle.mls_model.specs.Messages.{public_in}
-use Rattle.mls_model.specs.Verdict.{framing_checks, proposal_verdict, enter_epoch, commit_verdict, content_verdict, bytes_verdict, own_pending, pending_or_received, verdict}
+use Rattle.mls_model.specs.Verdict.{framing_checks, new_proposal, proposal_verdict, enter_epoch_with, enter_epoch, commit_verdict, content_verdict, bytes_verdict, own_pending, pending_or_received, verdict}
 use Rattle.mls_model.specs.VerdictFindings.{WasRemoved, reached_epoch, HasFollowed, DidPending}
 use Rattle.mls_model.proofs.Found.{ProposalDid, CommitDid, ContentDid, ReceivedDid, DidOther, VerdictDid}
 use Rattle.mls_model.specs.FramingLaws.{FramingDid, FramingPasses}
@@ -51,13 +51,13 @@ unfolding framing_checks
 framing_passes c m v bytes f = rw (f.group, f.epoch, f.sender, f.handshake, f.tag, f.signed, f.other) refl
 
 pub proposal_did : (c : Crypto) (m : Member) (v : SignedContent) (bytes : List ℕ) (said : Proposal) (x : Effect × Member) → proposal_verdict c m v bytes said ≡ Ok x → ProposalDid c m v bytes said x
-unfolding proposal_verdict
+unfolding proposal_verdict new_proposal
 proposal_did c m v bytes said x h = either_way _ _ _ _ h
     (λ e f. record { kept = e; is = ok_is _ _ f })
     (λ e f. let t = then_ok _ _ _ f in record { fresh = e; checks = t.0; is = ok_is _ _ t.1 })
 
 pub commit_did : (c : Crypto) (m : Member) (v : SignedContent) (commit : Commit) (tag : List ℕ) (x : Effect × Member) → commit_verdict c m v commit tag ≡ Ok x → CommitDid c m v commit tag x
-unfolding commit_verdict enter_epoch reached_epoch
+unfolding commit_verdict enter_epoch enter_epoch_with reached_epoch
 commit_did c m v commit tag x h =
     let s1 = require_ok _ _ _ _ h in
     let s2 = bind_ok _ _ _ s1.1 in

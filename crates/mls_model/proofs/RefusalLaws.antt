@@ -12,10 +12,10 @@ use Rattle.mls_types.specs.declared.update_path.UpdatePath.{UpdatePath}
 use Rattle.mls_types.specs.declared.commit.Commit.{Commit}
 use Rattle.mls_types.specs.declared.content.FramedContent.{FramedContent}
 use Rattle.mls_suite.specs.Crypto.{Crypto}
-use Rattle.mls_checks.specs.Checks.{is_package_signed, key_package_checks, replaced_checks}
+use Rattle.mls_checks.specs.Checks.{is_package_signed, key_package_checks, replacement_checks}
 use Rattle.mls_checks.specs.Leaf.{is_signed, is_capable, is_of_key_package, is_of_source, has_identity_of}
-use Rattle.mls_checks.specs.declared.checks.Source.{Source}
-use Rattle.mls_checks.specs.declared.checks.Source.TheVariants as leaf_node_source
+use Rattle.mls_checks.specs.declared.checks.LeafUse.{LeafUse}
+use Rattle.mls_checks.specs.declared.checks.LeafUse.TheVariants as leaf_node_source
 use Rattle.mls_tree_model.specs.Term.{Term, leaf_of}
 use Rattle.mls_tree_model.specs.Node.{source_hash}
 use Rattle.mls_tree_model.specs.Sets.{has, same_bytes, is_distinct}
@@ -46,8 +46,8 @@ package_refused c p n h =
     test_refused 57 (not (bytes_eq p.init_key p.leaf_node.encryption_key)) _ n h5 (is_one add_numbers 57 n refl) (λ h6.
     is_one add_numbers 36 n refl (last_refused 36 (c.key_ok p.init_key && c.key_ok p.leaf_node.encryption_key) n h6)))))))
 
-pub replaced_refused : (c : Crypto) (new old : LeafNode) (source : Source) (group : List ℕ) (i n : ℕ) → replaced_checks c new old source group i ≡ Err n → has update_numbers n ≡ true
-unfolding replaced_checks has
+pub replaced_refused : (c : Crypto) (new old : LeafNode) (source : LeafUse) (group : List ℕ) (i n : ℕ) → replacement_checks c new old source group i ≡ Err n → has update_numbers n ≡ true
+unfolding replacement_checks has
 replaced_refused c new old source group i n h =
     test_refused 50 (is_of_source source new.source) _ n h (is_one update_numbers 50 n refl) (λ h1.
     test_refused 51 (is_signed c group i new) _ n h1 (is_one update_numbers 51 n refl) (λ h2.
@@ -63,7 +63,7 @@ pub update_refused : (c : Crypto) (p : PublicState) (sender : ℕ) (leaf : LeafN
 unfolding proposal_checks update_checks has
 update_refused c p sender leaf n h =
     bind_refused (member_at p.tree sender) _ n h (λ e. is_one update_numbers 22 n refl (given_refused 22 (leaf_of p.tree sender) n e)) (λ old h1.
-    then_refused (replaced_checks c leaf old leaf_node_source.Update p.context.group_id sender) _ n h1 (replaced_refused c leaf old leaf_node_source.Update p.context.group_id sender n) (λ h2.
+    then_refused (replacement_checks c leaf old leaf_node_source.Update p.context.group_id sender) _ n h1 (replaced_refused c leaf old leaf_node_source.Update p.context.group_id sender n) (λ h2.
     is_one update_numbers 36 n refl (last_refused 36 (c.key_ok leaf.encryption_key) n h2)))
 
 pub remove_refused : (c : Crypto) (p : PublicState) (sender leaf n : ℕ) → proposal_checks c p sender (proposal.Remove leaf) ≡ Err n → has remove_numbers n ≡ true
@@ -143,7 +143,7 @@ unfolding apply_path_if apply_update_path has
 merged_refused c p committer e None n h = absurd cc
 merged_refused c p committer e (Some path) n h =
     bind_refused (member_at p.tree committer) _ n h (λ g. is_one body_numbers 22 n refl (given_refused 22 (leaf_of p.tree committer) n g)) (λ old h1.
-    then_refused (replaced_checks c path.leaf_node old leaf_node_source.Commit p.context.group_id committer) _ n h1
+    then_refused (replacement_checks c path.leaf_node old leaf_node_source.Commit p.context.group_id committer) _ n h1
     (λ g. widen update_numbers body_numbers n refl (replaced_refused c path.leaf_node old leaf_node_source.Commit p.context.group_id committer n g)) (λ h2.
     test_refused 30 (length path.nodes == path_length 0 e.tree committer) _ n h2 (is_one body_numbers 30 n refl) (λ h3.
     test_refused 31 (bytes_eq (cipher_counts path) (due_counts e committer)) _ n h3 (is_one body_numbers 31 n refl) (λ h4.

@@ -126,7 +126,7 @@ answered_step c w e x h = ap (step_by w) h
 pub own_is_followed : OwnIsFollowed
 unfolding with_epoch
 own_is_followed c w k s p source a pending b =
-    let n : Member = with_epoch s.member p.public p.epoch p.keys in
+    let n : Member = with_epoch s.member p.public p.epoch_secret p.keys in
     let x : Effect × Member = (Advanced p.public.context.epoch, n) in
     let took : DidPending s.member p.message x =
     record { pending = p; is_pending = pending; is_message = (bytes_eq-Decides p.message p.message).1 refl; is = refl } in

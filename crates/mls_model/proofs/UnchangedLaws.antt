@@ -101,7 +101,7 @@ members_by c w n source (Ok x) h =
     let s1 = bind_ok (entrant_at w n) _ _ h in
     let s2 = bind_ok (bytes_of w source) _ _ s1.2 in
     let s3 = bind_ok (join_verdict c s1.0.candidate s2.0) _ _ s2.2 in
-    let t : Seat = record { member = s3.0.member; journal = joiner_journal (commit_for_joiner w.made source s1.0.candidate) s3.0.info } in
+    let t : Seat = record { member = s3.0.member; journal = joiner_journal (commit_for_joiner w.commits source s1.0.candidate) s3.0.info } in
     members_to w n x (Joined (length w.seats) s3.0.member.public.context.epoch, with_new_member w n s1.0 t) s3.2 (members_joined w n s1.0 t)
 
 pub members_kept : MembersAreKept

@@ -20,8 +20,7 @@ use Rattle.mls_tree_model.specs.Sets.{has}
 use Rattle.mls_tree_model.specs.Way.{Step, way, is_filtered, is_beside}
 use Rattle.mls_types.specs.GroupContext.{group_context}
 use Rattle.mls_treekem_model.specs.Chain.{next_secret, node_key, node_public}
-use Rattle.mls_treekem_model.specs.Height.{keys_on}
-use Rattle.mls_treekem_model.specs.Keys.{Keys, PrivateKeys, rest, key_in}
+use Rattle.mls_treekem_model.specs.Keys.{Keys, PrivateKeys, rest, key_in, keys_on}
 use Rattle.mls_treekem_model.specs.Seal.{targets}
 use Rattle.mls_treekem_model.specs.Make.{Climb}
 use Rattle.mls_treekem_model.specs.Open.{unseal_secret, secret_of, open_with, open_first, climb_past_parent, open_at_ancestor, climb_open, opened_path, nodes_below, first_ciphertexts}
@@ -50,7 +49,7 @@ framing_refused c m v bytes n h =
     test_refused 43 (v.content.epoch == m.public.context.epoch) _ n h1 (is_one verdict_numbers 43 n refl) (λ h2.
     bind_refused (require_some 44 (leaf_of m.public.tree (sender_leaf v.content.sender))) _ n h2 (λ e. is_one verdict_numbers 44 n refl (given_refused 44 (leaf_of m.public.tree (sender_leaf v.content.sender)) n e)) (λ leaf h3.
     test_refused 45 (is_handshake v.content.body) _ n h3 (is_one verdict_numbers 45 n refl) (λ h4.
-    test_refused 46 (bytes_eq v.membership_tag (content_tag m.epoch v.content m.public.context)) _ n h4 (is_one verdict_numbers 46 n refl) (λ h5.
+    test_refused 46 (bytes_eq v.membership_tag (content_tag m.epoch_secret v.content m.public.context)) _ n h4 (is_one verdict_numbers 46 n refl) (λ h5.
     test_refused 47 (is_content_signed c leaf.signature_key v.content m.public.context) _ n h5 (is_one verdict_numbers 47 n refl) (λ h6.
     is_one verdict_numbers 48 n refl (last_refused 48 (not (sender_leaf v.content.sender == m.keys.leaf) || is_kept m.kept bytes) n h6)))))))
 

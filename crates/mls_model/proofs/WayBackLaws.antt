@@ -8,7 +8,7 @@ use Rattle.mls_types.specs.declared.signed.SignedBody.{SignedBody}
 use Rattle.mls_suite.specs.Crypto.{Crypto}
 use Rattle.mls_model.specs.declared.effect.Effect.{Effect}
 use Rattle.mls_model.specs.Member.{Pending, Member}
-use Rattle.mls_model.specs.Verdict.{proposal_verdict, enter_epoch, commit_verdict, content_verdict, bytes_verdict, own_pending, verdict}
+use Rattle.mls_model.specs.Verdict.{new_proposal, proposal_verdict, enter_epoch_with, enter_epoch, commit_verdict, content_verdict, bytes_verdict, own_pending, verdict}
 use Rattle.mls_model.specs.VerdictFindings.{DidPending, reached_epoch}
 use Rattle.mls_model.proofs.Receipts.{framing_passes}
 use Rattle.mls_model.specs.VerdictCases.{IsOther, IsTaken, IsProposal, IsCommit, Taking.follows_own, Taking.knows, Taking.keeps, Taking.leaves, Taking.follows, SoTaken, Refusing.gone, Refusing.unread, Refusing.no_public, Refusing.unframed, Refusing.unfit, Refusing.last_epoch, Refusing.unknown, Refusing.unsound, Refusing.closed, Refusing.untagged, SoRefused}
@@ -50,7 +50,7 @@ by_own c m bytes x g d =
     rw (n, o) (ap ok_of d.is)
 
 pub so_taken : SoTaken
-unfolding proposal_verdict commit_verdict enter_epoch reached_epoch
+unfolding proposal_verdict new_proposal commit_verdict enter_epoch enter_epoch_with reached_epoch
 so_taken c m bytes x (follows_own g d) = by_own c m bytes x g d
 so_taken c m bytes x (knows v said p k) = by_proposal c m bytes v said p ∙ (rw (k.kept) (ap ok_of k.is))
 so_taken c m bytes x (keeps v said p k) = by_proposal c m bytes v said p ∙ (rw (k.fresh, k.checks) (ap ok_of k.is))
@@ -65,7 +65,7 @@ unfolding verdict
 by_gone c m bytes g = let n : not m.gone ≡ false = ap not g in rw n refl
 
 pub so_refused : SoRefused
-unfolding bytes_verdict proposal_verdict commit_verdict enter_epoch reached_epoch
+unfolding bytes_verdict proposal_verdict new_proposal commit_verdict enter_epoch enter_epoch_with reached_epoch
 so_refused c m bytes n (gone g e) = by_gone c m bytes g ∙ ap err_of (sym e)
 so_refused c m bytes n (unread o e) = by_other c m bytes o ∙ (rw e refl)
 so_refused c m bytes n (no_public w o d e f) = by_other c m bytes o ∙ (rw (d, e) (ap err_of (sym f)))

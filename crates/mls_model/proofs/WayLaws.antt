@@ -5,7 +5,7 @@ use Rattle.std.proofs.lemmas.Bool.{not-true}
 use Rattle.mls_wire.specs.Checks.{Passed, passed, require, require_some, ◌>>◌}
 use Rattle.mls_wire.specs.Reading.{◌>>=◌}
 use Rattle.mls_leaf.specs.declared.proposal.Proposal.{Proposal}
-use Rattle.mls_types.specs.SignedParts.{framed}
+use Rattle.mls_types.specs.SignedParts.{framed_content_of}
 use Rattle.mls_types.specs.declared.commit.Commit.{Commit}
 use Rattle.mls_types.specs.declared.message.MlsMessage.{MlsMessage}
 use Rattle.mls_types.specs.declared.message.MlsMessage.TheVariants as message
@@ -23,7 +23,7 @@ use Rattle.mls_model.specs.Proposals.{proposal_checks, removed_leaves}
 use Rattle.mls_model.specs.Commit.{Change, change_of_commit}
 use Rattle.mls_model.specs.Member.{Pending, Member, kept_under, find_proposals, after_removal, keys_after_edits}
 use Rattle.mls_model.specs.Messages.{decode_message, public_in, sender_leaf, is_handshake, reference_of}
-use Rattle.mls_model.specs.Verdict.{framing_checks, proposal_verdict, open_path_secret, enter_epoch, commit_verdict, content_verdict, bytes_verdict, own_pending, pending_or_received, verdict}
+use Rattle.mls_model.specs.Verdict.{framing_checks, new_proposal, proposal_verdict, open_path_secret, enter_epoch_with, enter_epoch, commit_verdict, content_verdict, bytes_verdict, own_pending, pending_or_received, verdict}
 use Rattle.mls_model.specs.VerdictFindings.{WasRemoved, HasFollowed, DidPending, reached_epoch}
 use Rattle.mls_model.proofs.Found.{ProposalDid, ContentDid, DidOther}
 use Rattle.mls_model.proofs.Receipts.{framing_did, did_receive, did_take}
@@ -68,7 +68,7 @@ refused_tag c m bytes n v commit tag used change climb p d stays opens false x e
 refused_climb : (c : Crypto) (m : Member) (bytes : List ℕ) (n : ℕ) (v : PublicMessage) (commit : Commit) (tag : List ℕ) (used : List Used) (change : Change) → IsCommit c m bytes v commit tag → IsChanging c m v.content commit used change →
     has (removed_leaves used) m.keys.leaf ≡ false →
     (r : Result Climb ℕ) → open_path_secret c m (sender_leaf v.content.sender) change (keys_after_edits m commit.proposals change.edits.tree) commit.path ≡ r → (r >>= λ climb. enter_epoch m change climb tag) ≡ Err n → Refusing c m bytes n
-unfolding enter_epoch reached_epoch
+unfolding enter_epoch enter_epoch_with reached_epoch
 refused_climb c m bytes n v commit tag used change p d stays (Ok climb) e h = refused_tag c m bytes n v commit tag used change climb p d stays e (bytes_eq tag (confirmation_tag (reached_epoch m change climb) change.context.confirmed_transcript_hash)) _ refl h
 refused_climb c m bytes n v commit tag used change p d stays (Err k) e h = let same : k ≡ n = cc in closed v commit tag used change p d stays (e ∙ ap (λ (i : ℕ). Err i) same)
 
@@ -79,13 +79,13 @@ refused_way c m bytes n v commit tag used change p d true e h = absurd cc
 refused_way c m bytes n v commit tag used change p d false e h = refused_climb c m bytes n v commit tag used change p d e _ refl h
 
 refused_body : (c : Crypto) (m : Member) (bytes : List ℕ) (n : ℕ) (v : PublicMessage) (commit : Commit) (tag : List ℕ) (used : List Used) → IsCommit c m bytes v commit tag → IsUsing m v.content commit used →
-    (r : Result Change ℕ) → change_of_commit c m.public (sender_leaf v.content.sender) used commit (framed v.content) v.content.signature ≡ r →
+    (r : Result Change ℕ) → change_of_commit c m.public (sender_leaf v.content.sender) used commit (framed_content_of v.content) v.content.signature ≡ r →
     (r >>= λ change. if has (removed_leaves used) m.keys.leaf then Ok (Removed, after_removal m) else (open_path_secret c m (sender_leaf v.content.sender) change (keys_after_edits m commit.proposals change.edits.tree) commit.path >>= λ climb. enter_epoch m change climb tag)) ≡ Err n → Refusing c m bytes n
 refused_body c m bytes n v commit tag used p d (Ok change) e h = refused_way c m bytes n v commit tag used change p (record { is_using = d; change_is = e }) (has (removed_leaves used) m.keys.leaf) refl h
 refused_body c m bytes n v commit tag used p d (Err k) e h = let same : k ≡ n = cc in unsound v commit tag used p d (e ∙ ap (λ (i : ℕ). Err i) same)
 
 refused_commit : (c : Crypto) (m : Member) (bytes : List ℕ) (n : ℕ) (v : PublicMessage) (commit : Commit) (tag : List ℕ) → IsCommit c m bytes v commit tag → (b : Bool) → nat_lt m.public.context.epoch (2 ^ 64 - 1) ≡ b → (r : Result (List Used) ℕ) → find_proposals m.kept (sender_leaf v.content.sender) commit.proposals ≡ r →
-    (require 66 b >> (r >>= λ used. change_of_commit c m.public (sender_leaf v.content.sender) used commit (framed v.content) v.content.signature >>= λ change.
+    (require 66 b >> (r >>= λ used. change_of_commit c m.public (sender_leaf v.content.sender) used commit (framed_content_of v.content) v.content.signature >>= λ change.
     if has (removed_leaves used) m.keys.leaf then Ok (Removed, after_removal m) else (open_path_secret c m (sender_leaf v.content.sender) change (keys_after_edits m commit.proposals change.edits.tree) commit.path >>= λ climb. enter_epoch m change climb tag))) ≡ Err n → Refusing c m bytes n
 refused_commit c m bytes n v commit tag p false f r e h = last_epoch v commit tag p f cc
 refused_commit c m bytes n v commit tag p true f (Ok used) e h = refused_body c m bytes n v commit tag used p (record { below = f; uses = e }) _ refl h
@@ -101,7 +101,7 @@ no_application : (b : SignedBody) (text : _) → b ≡ body_of.Application text 
 no_application b text e h = let never = ap is_handshake e in cc
 
 refused_content : (c : Crypto) (m : Member) (bytes : List ℕ) (n : ℕ) (v : PublicMessage) (b : SignedBody) → v.content.body ≡ b → IsTaken c m bytes v → content_verdict c m v.content bytes b ≡ Err n → Refusing c m bytes n
-unfolding content_verdict proposal_verdict commit_verdict
+unfolding content_verdict proposal_verdict new_proposal commit_verdict
 refused_content c m bytes n v (body_of.Application text) e t h = absurd (no_application v.content.body text e t.is_framed.handshake)
 refused_content c m bytes n v (body_of.Proposal said) e t h = refused_proposal c m bytes n v said (record { is_taken = t; says = e }) _ refl _ _ _ refl h
 refused_content c m bytes n v (body_of.Commit commit tag) e t h = refused_commit c m bytes n v commit tag (record { is_taken = t; says = e }) _ refl _ refl h

@@ -17,12 +17,12 @@ pub record Agree (m n : Member) : Type 0 where
 
 -- two members hold one epoch secret, and the nine secrets that it gives (RFC 9420, 8)
 pub record AgreeSecret (m n : Member) : Type 0 where
-  pub epoch : m.epoch ≡ n.epoch
-  pub nine : nine_secrets m.epoch ≡ nine_secrets n.epoch
+  pub epoch : m.epoch_secret ≡ n.epoch_secret
+  pub nine : nine_secrets m.epoch_secret ≡ nine_secrets n.epoch_secret
 
 -- two members hold one epoch secret, or two that give one confirmation tag (RFC 9420, 6.1)
 abbrev pub AgreeOrTwins : Member → Member → Type 0
-AgreeOrTwins m n = AgreeSecret m n ⊎ Twins m.epoch n.epoch m.public.context.confirmed_transcript_hash
+AgreeOrTwins m n = AgreeSecret m n ⊎ Twins m.epoch_secret n.epoch_secret m.public.context.confirmed_transcript_hash
 
 -- ---- what members keep
 

@@ -32,7 +32,7 @@ pub record FollowsTo (c : Crypto) (m : Member) (made : Made) : Type 0 where
   pub after : Member
   pub is : verdict c m made.commit ≡ Ok (Advanced (m.public.context.epoch + 1), after)
   pub public : after.public ≡ made.pending.public
-  pub epoch : after.epoch ≡ made.pending.epoch
+  pub epoch : after.epoch_secret ≡ made.pending.epoch_secret
 
 -- a member follows a commit of a list, or answers that it was removed where the list removes it
 pub record Receives (c : Crypto) (m : Member) (list : List ProposalOrRef) (made : Made) : Type 0 where
@@ -56,7 +56,7 @@ pub record JoinsTo (c : Crypto) (k : Candidate) (welcome : List ℕ) (made : Mad
   pub joined : JoinedMember
   pub is : join_verdict c k welcome ≡ Ok joined
   pub public : joined.member.public ≡ made.pending.public
-  pub epoch : joined.member.epoch ≡ made.pending.epoch
+  pub epoch : joined.member.epoch_secret ≡ made.pending.epoch_secret
 
 -- A made Welcome passes the join verdict of each candidate whose own KeyPackage the commit adds.
 abbrev pub JoinersClaim : Type 0

@@ -16,7 +16,7 @@ use Rattle.mls_tree_model.specs.Hashes.{tree_hash}
 use Rattle.mls_tree_model.specs.Sets.{has}
 use Rattle.mls_tree_model.specs.Examples.{member, blank, over, listing_these}
 use Rattle.mls_model.specs.PublicState.{PublicState, Used, provisional_context}
-use Rattle.mls_model.specs.Proposals.{removed_leaves, extended}
+use Rattle.mls_model.specs.Proposals.{removed_leaves, extensions_after}
 use Rattle.mls_model.specs.Commit.{Edits, apply_proposals, change_after_edits}
 use Rattle.mls_model.specs.Member.{KeptProposal, find_proposals, follow_edits}
 
@@ -153,18 +153,18 @@ ListAsksForPath = (c : Crypto) (p : PublicState) (said : FramedContent) (signatu
 -- the list replaces what the group carried, whatever that was; the empty list clears it, and without a list it stays
 abbrev pub ListReplaces : Type 0
 ListReplaces = (context : GroupContext) (t : Term) →
-    provisional_context context (extended context.extensions
+    provisional_context context (extensions_after context.extensions
     (use_of 2 (proposal.Remove 3) ∷ use_of_list 1 (list_with 5) ∷ [])) t
     ≡ record context { epoch = context.epoch + 1; tree_hash = tree_hash 0 t; extensions = list_with 5 }
 
 abbrev pub ListClears : Type 0
 ListClears = (context : GroupContext) (t : Term) →
-    provisional_context context (extended context.extensions (use_of_list 1 [] ∷ [])) t
+    provisional_context context (extensions_after context.extensions (use_of_list 1 [] ∷ [])) t
     ≡ record context { epoch = context.epoch + 1; tree_hash = tree_hash 0 t; extensions = [] }
 
 abbrev pub ListStays : Type 0
 ListStays = (context : GroupContext) (t : Term) →
-    provisional_context context (extended context.extensions (use_of 2 (proposal.Remove 3) ∷ [])) t
+    provisional_context context (extensions_after context.extensions (use_of 2 (proposal.Remove 3) ∷ [])) t
     ≡ record context { epoch = context.epoch + 1; tree_hash = tree_hash 0 t }
 
 -- ---- which proposals it uses

@@ -1,8 +1,8 @@
 -- What holds of each world that a list of events leaves. `step` says what an event does where there is memory; where
--- there is none, code answers 1 and leaves all as before.
--- A seat is a member with its journal: where it began, and an entry for each commit that it followed since. The list
--- `made` has the commits that were made in the world. A journal is homemade where it began with a creation, and each of
--- its entries was made in the world at the journal before it, by calls that reached one epoch secret.
+-- there is none, code answers `OutOfMemory` (1) and leaves all as before. A seat is a member with its journal: where it
+-- began, and an entry for each commit that it followed since. The list `commits` has the commits that were made in the
+-- world. A journal is homemade where it began with a creation, and each of its entries was made in the world at the
+-- journal before it, by calls that reached one epoch secret.
 use Rattle.std.specs.Prelude.{◌≡◌, ◌≢◌, ℕ, ◌+◌, ◌<◌, Bool, true, false, List, length, take, slice_get, Option, Some, None, Result, Ok, Err}
 use Rattle.std.specs.List.{AllByRecursion, list_any}
 use Rattle.std.specs.Str.{bytes_eq}
@@ -13,7 +13,7 @@ use Rattle.mls_suite.specs.Crypto.{Crypto, Lawful}
 use Rattle.mls_tree_model.specs.Sets.{has}
 use Rattle.mls_tree_model.specs.Good.{IsGood}
 use Rattle.mls_tree.specs.Rules.{rules_of}
-use Rattle.mls_treekem_model.specs.Members.{HasExact}
+use Rattle.mls_treekem_model.specs.Keys.{HasExact}
 use Rattle.mls_model.specs.declared.effect.Effect.TheVariants.{Advanced, Removed}
 use Rattle.mls_model.specs.declared.event.Source.{Source}
 use Rattle.mls_model.specs.declared.event.Source.TheVariants.{Given, Message}
@@ -44,7 +44,7 @@ AgreeByJournal w = (i j : ℕ) (s t : Seat) → IsActive w i s → IsActive w j 
 -- members with one homemade journal hold the same secrets
 abbrev pub AgreeSecretIfHomemade : World → Type 0
 AgreeSecretIfHomemade w = (i j : ℕ) (s t : Seat) → IsActive w i s → IsActive w j t → s.journal ≡ t.journal →
-    IsHomemade w.made s.journal → AgreeSecret s.member t.member
+    IsHomemade w.commits s.journal → AgreeSecret s.member t.member
 
 -- members with one journal of any kind hold the same secrets, or their epoch secrets are twins: two that give one
 -- confirmation tag (RFC 9420, 6.1)
@@ -62,7 +62,7 @@ pub record FollowsCommit (c : Crypto) (w : World) (k : ℕ) (s : Seat) (source :
   pub is_after : IsActive (step c w (Deliver k source)).1 k after
   pub context : after.member.public.context.epoch ≡ s.member.public.context.epoch + 1
   pub journal : after.journal ≡ with_entry s.journal d.entry
-  pub epoch : after.member.epoch ≡ d.epoch
+  pub epoch : after.member.epoch_secret ≡ d.epoch_secret
 
 -- a member answers that it was removed, and is active no more; its journal is as it was
 pub record LeavesGroup (c : Crypto) (w : World) (k : ℕ) (s : Seat) (source : Source) : Type 0 where
@@ -85,9 +85,9 @@ pub record Accepts (c : Crypto) (w : World) (k : ℕ) (s : Seat) (source : Sourc
 pub record IsToAccept (w : World) (k : ℕ) (s : Seat) (source : Source) (d : CommitMade) : Type 0 where
   -- a commit call of this world made the commit
   pub place : ℕ
-  pub made : slice_get w.made place ≡ Some d
+  pub made : slice_get w.commits place ≡ Some d
   -- the journal at which it was made is homemade
-  pub homemade : IsHomemade w.made d.journal
+  pub homemade : IsHomemade w.commits d.journal
   -- the member is active
   pub active : IsActive w k s
   -- it isn't the maker
@@ -95,7 +95,7 @@ pub record IsToAccept (w : World) (k : ℕ) (s : Seat) (source : Source) (d : Co
   -- its journal is the one at which the commit was made
   pub journal : s.journal ≡ d.journal
   -- it keeps, under each reference that the commit names, the very message that the maker named
-  pub keeps : Keeps s.member.kept (list_in d.entry.commit) d.entry.names
+  pub keeps : Keeps s.member.kept (list_in d.entry.commit) d.entry.named_messages
   -- the source's bytes are those of the commit
   pub bytes : bytes_of w source ≡ Ok d.entry.commit
 
@@ -114,7 +114,7 @@ pub record JoinsGroup (c : Crypto) (w : World) (n : ℕ) (source : Source) (d : 
   pub is_after : IsActive (step c w (Join n source)).1 (length w.seats) after
   pub one_more : length (step c w (Join n source)).1.seats ≡ length w.seats + 1
   pub journal : after.journal ≡ with_entry d.journal d.entry
-  pub epoch : after.member.epoch ≡ d.epoch
+  pub epoch : after.member.epoch_secret ≡ d.epoch_secret
 
 -- candidate n isn't spent, and a commit adds its own KeyPackage
 pub record IsAdded (w : World) (n : ℕ) (e : Entrant) (d : CommitMade) : Type 0 where
@@ -125,7 +125,7 @@ pub record IsAdded (w : World) (n : ℕ) (e : Entrant) (d : CommitMade) : Type 0
 -- a candidate that a commit adds joins by the number of the commit's Welcome, whatever the journal was, with the
 -- maker's journal and that commit
 abbrev pub JoinsByNumber : Crypto → World → Type 0
-JoinsByNumber c w = (i n number : ℕ) (bytes : List ℕ) (d : CommitMade) (e : Entrant) → slice_get w.made i ≡ Some d →
+JoinsByNumber c w = (i n number : ℕ) (bytes : List ℕ) (d : CommitMade) (e : Entrant) → slice_get w.commits i ≡ Some d →
     d.welcome ≡ Some (number, bytes) →
     IsAdded w n e d → JoinsGroup c w n (Message number) d
 
@@ -134,13 +134,13 @@ abbrev pub IsGiven : Source → List ℕ → Type 0
 IsGiven (Given supplied) bytes = supplied.items ≡ bytes
 IsGiven (Message n) bytes = ⊥
 
--- a candidate that a commit adds joins by the bytes of the commit's Welcome too, with the journal of the first such
--- Welcome that has these bytes
+-- a candidate that a commit adds joins by the bytes of the commit's Welcome too: with the maker's journal, the entry
+-- and the epoch secret of the first commit that adds it by a Welcome of these bytes
 abbrev pub JoinsByBytes : Crypto → World → Type 0
 JoinsByBytes c w = (i n number : ℕ) (bytes : List ℕ) (source : Source) (d : CommitMade) (e : Entrant) →
-    slice_get w.made i ≡ Some d → d.welcome ≡ Some (number, bytes) →
+    slice_get w.commits i ≡ Some d → d.welcome ≡ Some (number, bytes) →
     IsGiven source bytes → IsAdded w n e d →
-    (f : CommitMade) × (commit_for_joiner w.made source e.candidate ≡ Some f) × JoinsGroup c w n source f
+    (f : CommitMade) × (commit_for_joiner w.commits source e.candidate ≡ Some f) × JoinsGroup c w n source f
 
 -- ---- keys and trees, whatever bytes came
 
@@ -162,24 +162,24 @@ RefusalsChangeNothing c w = (e : Event) (n : ℕ) → (step c w e).0 ≡ Refused
 
 -- ---- what deliveries and joins leave as it was
 
--- other members than k, all candidates and messages, and the record of what was made stay as they were
+-- other members than k, all candidates and messages, and the commits that were made stay as they were
 pub record KeepsOthers (w v : World) (k : ℕ) : Type 0 where
   pub count : length v.seats ≡ length w.seats
   pub seats : (i : ℕ) → i ≢ k → slice_get v.seats i ≡ slice_get w.seats i
   pub entrants : v.entrants ≡ w.entrants
   pub messages : v.messages ≡ w.messages
-  pub made : v.made ≡ w.made
+  pub made : v.commits ≡ w.commits
 
 -- a delivery changes nobody but the member that it is made to
 abbrev pub DeliveriesKeepOthers : Crypto → World → Type 0
 DeliveriesKeepOthers c w = (k : ℕ) (source : Source) → KeepsOthers w (step c w (Deliver k source)).1 k
 
--- all members, other candidates than n, all messages, and the record of what was made stay as they were
+-- all members, other candidates than n, all messages, and the commits that were made stay as they were
 pub record KeepsMembers (w v : World) (n : ℕ) : Type 0 where
   pub seats : (i : ℕ) → i < length w.seats → slice_get v.seats i ≡ slice_get w.seats i
   pub entrants : (i : ℕ) → i ≢ n → slice_get v.entrants i ≡ slice_get w.entrants i
   pub messages : v.messages ≡ w.messages
-  pub made : v.made ≡ w.made
+  pub made : v.commits ≡ w.commits
 
 -- a join changes no member
 abbrev pub JoinsKeepMembers : Crypto → World → Type 0
@@ -191,12 +191,12 @@ JoinsKeepMembers c w = (n : ℕ) (source : Source) → KeepsMembers w (step c w 
 pub record IsPendingOf (w : World) (k : ℕ) (s : Seat) (p : Pending) : Type 0 where
   pub which : CommitMade
   pub place : ℕ
-  pub is : slice_get w.made place ≡ Some which
+  pub is : slice_get w.commits place ≡ Some which
   pub maker : which.maker ≡ k
   pub journal : which.journal ≡ s.journal
   pub commit : which.entry.commit ≡ p.message
-  pub names : which.entry.names ≡ names_in s.member.kept (list_in p.message)
-  pub epoch : which.epoch ≡ p.epoch
+  pub names : which.entry.named_messages ≡ names_in s.member.kept (list_in p.message)
+  pub epoch : which.epoch_secret ≡ p.epoch_secret
 
 -- the pending commit of each active member is one that it made
 abbrev pub PendingWasMade : World → Type 0
@@ -210,7 +210,7 @@ pub record FollowsPending (c : Crypto) (w : World) (k : ℕ) (s : Seat) (p : Pen
   pub is_after : IsActive (step c w (Deliver k source)).1 k after
   pub public : after.member.public ≡ p.public
   pub journal : after.journal ≡ with_entry s.journal (entry_of s.member p.message)
-  pub epoch : after.member.epoch ≡ p.epoch
+  pub epoch : after.member.epoch_secret ≡ p.epoch_secret
 
 -- an active member follows the commit that it holds as its pending one
 abbrev pub FollowsOwn : Crypto → World → Type 0
@@ -221,17 +221,17 @@ FollowsOwn c w = (k : ℕ) (s : Seat) (p : Pending) (source : Source) → IsActi
 -- while the maker of a commit stands at the journal at which it made it, it keeps the very messages that the commit
 -- names
 abbrev pub MakersKeep : World → Type 0
-MakersKeep w = (n : ℕ) (d : CommitMade) (s : Seat) → slice_get w.made n ≡ Some d → IsActive w d.maker s →
-    s.journal ≡ d.journal → Keeps s.member.kept (list_in d.entry.commit) d.entry.names
+MakersKeep w = (n : ℕ) (d : CommitMade) (s : Seat) → slice_get w.commits n ≡ Some d → IsActive w d.maker s →
+    s.journal ≡ d.journal → Keeps s.member.kept (list_in d.entry.commit) d.entry.named_messages
 
 -- the epoch that a message names in its content (RFC 9420, 6)
 abbrev pub epoch_of_message : Result MlsMessage ℕ → Option ℕ
 epoch_of_message (Ok (message.PublicMessage v)) = Some v.content.epoch
 epoch_of_message other = None
 
--- in the epoch of a commit that it made, and that isn't its pending one, the maker answers 48
+-- in the epoch of a commit that it made, and that isn't its pending one, the maker answers `OwnUnknown` (48)
 abbrev pub RefusesOwn : Crypto → World → Type 0
-RefusesOwn c w = (n : ℕ) (d : CommitMade) (s : Seat) (source : Source) → slice_get w.made n ≡ Some d →
+RefusesOwn c w = (n : ℕ) (d : CommitMade) (s : Seat) (source : Source) → slice_get w.commits n ≡ Some d →
     IsActive w d.maker s →
     epoch_of_message (decode_message d.entry.commit) ≡ Some s.member.public.context.epoch →
     own_pending s.member.pending d.entry.commit ≡ None →

@@ -24,7 +24,7 @@ are_same_bytes (x ∷ xs) (y ∷ ys) = bytes_eq x y && are_same_bytes xs ys
 
 -- whether two entries have the same commit and the same messages
 abbrev pub is_same_entry : Entry → Entry → Bool
-is_same_entry d e = bytes_eq d.commit e.commit && are_same_bytes d.names e.names
+is_same_entry d e = bytes_eq d.commit e.commit && are_same_bytes d.named_messages e.named_messages
 
 -- whether two lists of entries are the same, one by one
 unfoldable pub are_same_entries : List Entry → List Entry → Bool
@@ -46,7 +46,7 @@ is_creation (from.GroupInfo g) = false
 
 -- the epoch secrets that commit calls reached which made this entry at this journal
 unfoldable pub reached_epochs : List CommitMade → Journal → Entry → List (List ℕ)
-reached_epochs made j e = map (λ (d : CommitMade). d.epoch)
+reached_epochs made j e = map (λ (d : CommitMade). d.epoch_secret)
     (filter (λ (d : CommitMade). is_same_journal d.journal j && is_same_entry d.entry e) made)
 
 -- whether a list of epoch secrets has one value, and no other

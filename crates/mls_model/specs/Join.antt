@@ -1,6 +1,6 @@
 -- What a candidate does with a Welcome (RFC 9420, 12.4.3.1): the first check that fails, by its number, or the new
--- member and the GroupInfo that was opened. Whether the candidate is in a group of this id already, which the standard
--- asks too, is for the caller to know.
+-- member and the GroupInfo that was opened. Whether the candidate is in a group of this id already, and whether it
+-- supports the group's extensions, which the standard asks too (12.4.3.1 and 13.4), is for the caller to know.
 use Rattle.std.specs.Prelude.{ℕ, Bool, false, not, List, [], codes, find, Option, Some, None, Result, Ok}
 use Rattle.std.specs.Str.{bytes_eq}
 use Rattle.mls_wire.specs.Checks.{Passed, require, require_some, ◌>>◌}
@@ -30,8 +30,8 @@ use Rattle.mls_model.specs.OpenedWelcome.{Opened, opened_welcome}
 
 -- ---- the group that it tells of
 
--- the tree of a GroupInfo: `NoTree` (76) there is none, `TreeShape` (20) and `TreeFull` (21), `TreeHashWrong` (77), then
--- the checks of a whole tree (RFC 9420, 12.4.3.1 and 12.4.3.3)
+-- the tree of a GroupInfo: `NoTree` (76) there is none, `TreeShape` (20) and `TreeFull` (21), `TreeHashWrong` (77),
+-- then the checks of a whole tree (RFC 9420, 12.4.3.1 and 12.4.3.3)
 unfoldable pub joined_tree : Crypto → GroupInfo → Result Term ℕ
 joined_tree c info = do
   nodes ← require_some 76 info.ratchet_tree
@@ -40,8 +40,9 @@ joined_tree c info = do
   tree_checks (rules_of c info.group_context.group_id) t
   Ok t
 
--- the checks of a GroupInfo's signer: 78 it is no member, or the candidate itself, whose way would never part from the
--- signer's; 79 its signature (RFC 9420, 12.4.3.1)
+-- the checks of a GroupInfo's signer: `SignerWrong` (78) it is no member, or the candidate itself, whose way would
+-- never part from the signer's (of this the standard says nothing); `GroupInfoSignature` (79) its signature (RFC 9420,
+-- 12.4.3.1)
 unfoldable pub signer_checks : Crypto → Candidate → GroupInfo → Term → Result Passed ℕ
 signer_checks c k info t = do
   signer ← require_some 78 (leaf_of t info.signer)
@@ -70,14 +71,10 @@ pub record JoinedMember : Type 0 where
   pub member : Member
   pub info : List ℕ
 
--- the new member of an opened Welcome (RFC 9420, 12.4.3.1): the checks of tree and signer, `NotInTree` (80) no leaf is
--- the candidate's, the checks of its keys, `BadConfirmationTag` (65)
-unfoldable pub member_of : Crypto → Candidate → Opened → Result JoinedMember ℕ
-member_of c k o = do
-  t ← joined_tree c o.info
-  signer_checks c k o.info t
-  place ← require_some 80 (place_of k.offered.leaf_node t)
-  keys ← joined_keys c t o.info.signer (record { leaf = place.0; own = k.leaf; above = [] }) o.path_secret
+-- the new member with these keys in this tree: `BadConfirmationTag` (65) the confirmation tag isn't that of the epoch
+-- (RFC 9420, 12.4.3.1)
+unfoldable pub enter_group : Candidate → Opened → Term → PrivateKeys → Result JoinedMember ℕ
+enter_group k o t keys = do
   let context : GroupContext = o.info.group_context
   let epoch = epoch_secret o.joiner (group_context.spell context)
   require 65 (bytes_eq o.info.confirmation_tag (confirmation_tag epoch context.confirmed_transcript_hash))
@@ -89,7 +86,7 @@ member_of c k o = do
         tree = t;
         interim = interim_hash context.confirmed_transcript_hash o.info.confirmation_tag;
       };
-      epoch = epoch;
+      epoch_secret = epoch;
       keys = keys;
       signing = k.signing;
       kept = [];
@@ -97,6 +94,16 @@ member_of c k o = do
     };
     info = o.bytes;
   })
+
+-- the new member of an opened Welcome (RFC 9420, 12.4.3.1): the checks of tree and signer, `NotInTree` (80) no leaf is
+-- the candidate's, the checks of its keys, and of the confirmation tag
+unfoldable pub member_of : Crypto → Candidate → Opened → Result JoinedMember ℕ
+member_of c k o = do
+  t ← joined_tree c o.info
+  signer_checks c k o.info t
+  place ← require_some 80 (place_of k.offered.leaf_node t)
+  keys ← joined_keys c t o.info.signer (record { leaf = place.0; own = k.leaf; above = [] }) o.path_secret
+  enter_group k o t keys
 
 -- what a candidate does with any bytes: it opens the Welcome, and becomes the new member (RFC 9420, 12.4.3.1)
 unfoldable pub join_verdict : Crypto → Candidate → List ℕ → Result JoinedMember ℕ

@@ -2,10 +2,10 @@
 use Rattle.std.specs.Prelude.{ℕ, true, false, List, [], ◌∷◌, slice_get, Option, Some, None, Result, Ok, Err}
 use Rattle.mls_wire.specs.Checks.{require_some}
 use Rattle.mls_wire.specs.Reading.{◌>>=◌}
-use Rattle.mls_leaf.specs.Faults.{whole}
+use Rattle.mls_wire.specs.Whole.{whole}
 use Rattle.mls_leaf.specs.Limits.{input_limit}
 use Rattle.mls_types.specs.GroupInfo.{group_info}
-use Rattle.mls_types.specs.SignedParts.{framed}
+use Rattle.mls_types.specs.SignedParts.{framed_content_of}
 use Rattle.mls_types.specs.declared.commit.ProposalOrRef.{ProposalOrRef}
 use Rattle.mls_types.specs.declared.commit.ProposalOrRef.TheVariants as listed
 use Rattle.mls_types.specs.declared.signed.SignedBody.{SignedBody}
@@ -29,7 +29,8 @@ used_of_body v (body_of.Proposal said) =
     Some (record { proposal = said; sender = sender_leaf v.sender; is_full = false })
 used_of_body v other = None
 
--- the proposal that the message in an entry is: decoding, 41 no PublicMessage, 60 no proposal
+-- the proposal that the message in an entry is: decoding, `NotPublicMessage` (41) no PublicMessage,
+-- `UnknownReference` (60) no proposal
 unfoldable pub used_in : List ℕ → Result Used ℕ
 used_in bytes = decode_message bytes >>= λ m. require_some 41 (public_in m) >>= λ v. require_some 60
     (used_of_body v.content v.content.body)
@@ -43,19 +44,21 @@ used_by_names committer (listed.Reference reference ∷ xs) [] = Err 60
 used_by_names committer (listed.Reference reference ∷ xs) (n ∷ ns) =
     used_in n >>= λ u. used_by_names committer xs ns >>= λ us. Ok (u ∷ us)
 
--- the public state after a content with the messages that its entry names: 45 where it is no commit (RFC 9420, 12.4.2)
+-- the public state after a content with the messages that its entry names: `NotHandshake` (45) where it is no commit
+-- (RFC 9420, 12.4.2)
 abbrev pub public_after_body : Crypto → PublicState → List (List ℕ) → SignedContent → SignedBody → Result PublicState ℕ
 public_after_body c p names v (body_of.Commit commit tag) =
     used_by_names (sender_leaf v.sender) commit.proposals names >>= λ used. next_public c p
-    (sender_leaf v.sender) used commit (framed v) v.signature tag
+    (sender_leaf v.sender) used commit (framed_content_of v) v.signature tag
 public_after_body c p names v other = Err 45
 
 -- the public state after an entry
 unfoldable pub public_after : Crypto → PublicState → Entry → Result PublicState ℕ
 public_after c p e = decode_message e.commit >>= λ m. require_some 41
-    (public_in m) >>= λ v. public_after_body c p e.names v.content v.content.body
+    (public_in m) >>= λ v. public_after_body c p e.named_messages v.content v.content.body
 
--- the public state of a GroupInfo: its faults, 76 it has no tree, 20 and 21 the tree's shape and size
+-- the public state of a GroupInfo: its faults, `NoTree` (76) it has no tree, `TreeShape` (20) and `TreeFull` (21) the
+-- tree's shape and size
 unfoldable pub public_of_info : List ℕ → Result PublicState ℕ
 public_of_info bytes = do
   info ← whole group_info input_limit bytes
@@ -71,7 +74,7 @@ public_of_info bytes = do
 abbrev pub Creations : Type 0
 Creations = List (Option Member)
 
--- the public state of a creation by its number: 90 where none made that member
+-- the public state of a creation by its number: `NoSuchMember` (90) where none made that member
 abbrev pub public_of_creation : Option (Option Member) → Result PublicState ℕ
 public_of_creation (Some (Some m)) = Ok m.public
 public_of_creation (Some None) = Err 90

@@ -10,7 +10,7 @@ use Rattle.mls_leaf.specs.declared.proposal.Proposal.{Proposal}
 use Rattle.mls_leaf.specs.declared.proposal.Proposal.TheVariants as proposal
 use Rattle.mls_types.specs.GroupContext.{group_context}
 use Rattle.mls_types.specs.Message.{mls_message}
-use Rattle.mls_types.specs.SignedParts.{framed}
+use Rattle.mls_types.specs.SignedParts.{framed_content_of}
 use Rattle.mls_types.specs.declared.commit.Commit.{Commit}
 use Rattle.mls_types.specs.declared.message.MlsMessage.TheVariants as message
 use Rattle.mls_types.specs.declared.public_message.PublicMessage.{PublicMessage}
@@ -22,8 +22,8 @@ use Rattle.mls_tree_model.specs.Arrays.{in_order}
 use Rattle.mls_tree_model.specs.Good.{IsGood}
 use Rattle.mls_tree_model.specs.Hashes.{tree_hash}
 use Rattle.mls_tree.specs.Rules.{rules_of}
-use Rattle.mls_treekem_model.specs.Members.{HasExact}
 use Rattle.mls_schedule.specs.Epoch.{confirmation_tag}
+use Rattle.mls_treekem_model.specs.Keys.{HasExact}
 use Rattle.mls_model.specs.PublicState.{Used}
 use Rattle.mls_model.specs.Proposals.{proposal_checks}
 use Rattle.mls_model.specs.Commit.{next_public}
@@ -66,9 +66,9 @@ pub record IsGoodPending (c : Crypto) (m : Member) (p : Pending) : Type 0 where
   pub from : sender_leaf said.content.sender ≡ m.keys.leaf
   pub below : nat_lt m.public.context.epoch (2 ^ 64 - 1) ≡ true
   pub uses : find_proposals m.kept m.keys.leaf commit.proposals ≡ Ok used
-  pub next : next_public c m.public m.keys.leaf used commit (framed said.content) said.content.signature tag
+  pub next : next_public c m.public m.keys.leaf used commit (framed_content_of said.content) said.content.signature tag
       ≡ Ok p.public
-  pub confirmed : tag ≡ confirmation_tag p.epoch p.public.context.confirmed_transcript_hash
+  pub confirmed : tag ≡ confirmation_tag p.epoch_secret p.public.context.confirmed_transcript_hash
   pub keys : HasExact c p.public.tree p.keys
   pub leaf : p.keys.leaf ≡ m.keys.leaf
 

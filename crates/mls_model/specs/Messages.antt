@@ -1,14 +1,14 @@
--- What members sign, tag and hash of their messages.
+-- How members decode messages, and what they sign, tag and hash of them (RFC 9420, 6).
 use Rattle.std.specs.Prelude.{ℕ, nat_lt, nat_le, Bool, true, false, ◌&&◌, List, [], length, codes, Option, Some, None, Result}
 use Rattle.std.specs.List.{list_all}
 use Rattle.mls_wire.specs.Checks.{Passed, require}
-use Rattle.mls_leaf.specs.Faults.{whole}
+use Rattle.mls_wire.specs.Whole.{whole}
 use Rattle.mls_leaf.specs.Limits.{input_limit}
 use Rattle.mls_types.specs.declared.group_context.GroupContext.{GroupContext}
 use Rattle.mls_types.specs.Message.{mls_message}
 use Rattle.mls_types.specs.PublicMessage.{authenticated_content}
 use Rattle.mls_types.specs.Reference.{proposal_reference}
-use Rattle.mls_types.specs.SignedParts.{framed}
+use Rattle.mls_types.specs.SignedParts.{framed_content_of}
 use Rattle.mls_types.specs.Signing.{framed_content_tbs, authenticated_content_tbm}
 use Rattle.mls_types.specs.declared.content.Content.{Content}
 use Rattle.mls_types.specs.declared.content.FramedContent.{FramedContent}
@@ -37,8 +37,8 @@ unfoldable pub are_bytes : List ℕ → Bool
 are_bytes bytes = list_all (λ (b : ℕ). nat_lt b 256) bytes
 
 -- the check of bytes that were made: `TooLong` (6) they are more than a message may have, or not bytes
-unfoldable pub is_within_limit : List ℕ → Result Passed ℕ
-is_within_limit bytes = require 6 (nat_le (length bytes) input_limit && are_bytes bytes)
+unfoldable pub require_within_limit : List ℕ → Result Passed ℕ
+require_within_limit bytes = require 6 (nat_le (length bytes) input_limit && are_bytes bytes)
 
 -- the PublicMessage that a message is (RFC 9420, 6)
 abbrev pub public_in : MlsMessage → Option PublicMessage
@@ -51,7 +51,7 @@ public_in other = None
 abbrev pub sender_leaf : Sender → ℕ
 sender_leaf (sender.Member leaf) = leaf
 
--- whether a content is a proposal or a commit
+-- whether a content is a proposal or a commit (RFC 9420, 6)
 abbrev pub is_handshake : SignedBody → Bool
 is_handshake (body.Application text) = false
 is_handshake other = true
@@ -75,7 +75,7 @@ content_signature c signing said context = sign_with_label c signing (codes "Fra
 -- whether the signature of a content is that of a signature key (RFC 9420, 6.1)
 unfoldable pub is_content_signed : Crypto → List ℕ → SignedContent → GroupContext → Bool
 is_content_signed c key v context = verify_with_label c key (codes "FramedContentTBS")
-    (framed_content_tbs format.PublicMessage (framed v) context) v.signature
+    (framed_content_tbs format.PublicMessage (framed_content_of v) context) v.signature
 
 -- the membership tag of a signed content, by the epoch secret and the context of the epoch (RFC 9420, 6.2)
 unfoldable pub content_tag : List ℕ → SignedContent → GroupContext → List ℕ
@@ -85,7 +85,7 @@ content_tag epoch v context = membership_tag epoch (authenticated_content_tbm fo
 unfoldable pub message_by : Member → SignedContent → List ℕ
 message_by m v =
     mls_message.spell
-    (message.PublicMessage (record { content = v; membership_tag = content_tag m.epoch v m.public.context }))
+    (message.PublicMessage (record { content = v; membership_tag = content_tag m.epoch_secret v m.public.context }))
 
 -- the reference of a proposal (RFC 9420, 5.2)
 unfoldable pub reference_of : SignedContent → List ℕ

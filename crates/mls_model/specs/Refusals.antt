@@ -45,6 +45,7 @@ framing_numbers = 42 ∷ 43 ∷ 44 ∷ 45 ∷ 46 ∷ 47 ∷ 48 ∷ []
 abbrev pub verdict_numbers : List ℕ
 verdict_numbers = 32 ∷ 33 ∷ 34 ∷ 40 ∷ 41 ∷ 60 ∷ 65 ∷ 66 ∷ framing_numbers ++ body_numbers
 
+-- a verdict refuses bytes with these and those of decoding alone
 abbrev pub VerdictNumbers : Type 0
 VerdictNumbers = (c : Crypto) (m : Member) (bytes : List ℕ) (n : ℕ) →
     verdict c m bytes ≡ Err n → (is_input_fault n || has verdict_numbers n) ≡ true
@@ -53,6 +54,7 @@ VerdictNumbers = (c : Crypto) (m : Member) (bytes : List ℕ) (n : ℕ) →
 abbrev pub propose_add_numbers : List ℕ
 propose_add_numbers = 6 ∷ 40 ∷ 49 ∷ add_numbers
 
+-- it is refused with these alone
 abbrev pub AddNumbers : Type 0
 AddNumbers = (c : Crypto) (m : Member) (offered : KeyPackage) (n : ℕ) →
     propose_add c m offered ≡ Err n → has propose_add_numbers n ≡ true
@@ -61,6 +63,7 @@ AddNumbers = (c : Crypto) (m : Member) (offered : KeyPackage) (n : ℕ) →
 abbrev pub propose_update_numbers : List ℕ
 propose_update_numbers = 6 ∷ 40 ∷ 49 ∷ update_numbers
 
+-- it is refused with these alone
 abbrev pub UpdateNumbers : Type 0
 UpdateNumbers = (c : Crypto) (m : Member) (seed : List ℕ) (n : ℕ) →
     propose_update c m seed ≡ Err n → has propose_update_numbers n ≡ true
@@ -69,6 +72,7 @@ UpdateNumbers = (c : Crypto) (m : Member) (seed : List ℕ) (n : ℕ) →
 abbrev pub propose_remove_numbers : List ℕ
 propose_remove_numbers = 6 ∷ 40 ∷ 49 ∷ remove_numbers
 
+-- it is refused with these alone
 abbrev pub RemoveNumbers : Type 0
 RemoveNumbers = (c : Crypto) (m : Member) (leaf : ℕ) (n : ℕ) →
     propose_remove c m leaf ≡ Err n → has propose_remove_numbers n ≡ true
@@ -77,6 +81,7 @@ RemoveNumbers = (c : Crypto) (m : Member) (leaf : ℕ) (n : ℕ) →
 abbrev pub propose_extensions_numbers : List ℕ
 propose_extensions_numbers = 6 ∷ 40 ∷ 49 ∷ []
 
+-- it is refused with these alone
 abbrev pub ExtensionsNumbers : Type 0
 ExtensionsNumbers = (c : Crypto) (m : Member) (list : List Extension) (n : ℕ) →
     propose_extensions c m list ≡ Err n → has propose_extensions_numbers n ≡ true
@@ -85,6 +90,7 @@ ExtensionsNumbers = (c : Crypto) (m : Member) (list : List Extension) (n : ℕ) 
 abbrev pub make_numbers : List ℕ
 make_numbers = 6 ∷ 40 ∷ 60 ∷ 66 ∷ 67 ∷ body_numbers
 
+-- it is refused with these alone
 abbrev pub MakeNumbers : Type 0
 MakeNumbers = (c : Crypto) (m : Member) (list : List ProposalOrRef) (wants_path : Bool) (seed : List ℕ) (n : ℕ) →
     make c m list wants_path seed ≡ Err n → has make_numbers n ≡ true
@@ -105,6 +111,7 @@ join_numbers =
     20 ∷ 21 ∷ 23 ∷ 24 ∷ 25 ∷ 26 ∷ 34 ∷ 35 ∷ 36 ∷ 51 ∷ 52 ∷ 65
     ∷ 70 ∷ 71 ∷ 72 ∷ 73 ∷ 74 ∷ 75 ∷ 76 ∷ 77 ∷ 78 ∷ 79 ∷ 80 ∷ []
 
+-- it is refused with these and those of decoding alone
 abbrev pub JoinNumbers : Type 0
 JoinNumbers = (c : Crypto) (k : Candidate) (bytes : List ℕ) (n : ℕ) →
     join_verdict c k bytes ≡ Err n → (is_input_fault n || has join_numbers n) ≡ true

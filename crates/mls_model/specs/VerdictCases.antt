@@ -2,7 +2,7 @@
 use Rattle.std.specs.Prelude.{◌≡◌, ℕ, ◌-◌, ◌^◌, nat_lt, true, false, List, None, is_some, Ok, Err}
 use Rattle.std.specs.Str.{bytes_eq}
 use Rattle.mls_leaf.specs.declared.proposal.Proposal.{Proposal}
-use Rattle.mls_types.specs.SignedParts.{framed}
+use Rattle.mls_types.specs.SignedParts.{framed_content_of}
 use Rattle.mls_types.specs.declared.commit.Commit.{Commit}
 use Rattle.mls_types.specs.declared.message.MlsMessage.{MlsMessage}
 use Rattle.mls_types.specs.declared.message.MlsMessage.TheVariants as message
@@ -40,6 +40,7 @@ pub record IsProposal (c : Crypto) (m : Member) (bytes : List ℕ) (v : PublicMe
   pub is_taken : IsTaken c m bytes v
   pub says : v.content.body ≡ body_of.Proposal said
 
+-- the bytes are such a message with a commit, and this is its confirmation tag
 pub record IsCommit (c : Crypto) (m : Member) (bytes : List ℕ) (v : PublicMessage) (commit : Commit)
     (tag : List ℕ) : Type 0 where
   pub is_taken : IsTaken c m bytes v
@@ -54,10 +55,11 @@ pub record IsUsing (m : Member) (v : SignedContent) (commit : Commit) (used : Li
 pub record IsChanging (c : Crypto) (m : Member) (v : SignedContent) (commit : Commit) (used : List Used)
     (change : Change) : Type 0 where
   pub is_using : IsUsing m v commit used
-  pub change_is : change_of_commit c m.public (sender_leaf v.sender) used commit (framed v) v.signature ≡ Ok change
+  pub change_is : change_of_commit c m.public (sender_leaf v.sender) used commit (framed_content_of v) v.signature ≡ Ok change
 
 -- ---- the five ways in which bytes are taken
 
+-- a member takes bytes with this effect, and with this member after it
 pub data Taking (c : Crypto) (m : Member) (bytes : List ℕ) (x : Effect × Member) : Type 0 where
   follows_own : m.gone ≡ false → DidPending m bytes x → Taking c m bytes x
   knows : (v : PublicMessage) (said : Proposal) → IsProposal c m bytes v said → WasKnown m v.content x →
@@ -76,12 +78,14 @@ abbrev pub TakenSo : Type 0
 TakenSo = (c : Crypto) (m : Member) (bytes : List ℕ) (x : Effect × Member) → verdict c m bytes ≡ Ok x →
     Taking c m bytes x
 
+-- and wherever one of these ways is there, a verdict takes them so
 abbrev pub SoTaken : Type 0
 SoTaken = (c : Crypto) (m : Member) (bytes : List ℕ) (x : Effect × Member) → Taking c m bytes x →
     verdict c m bytes ≡ Ok x
 
 -- ---- the ten in which they are refused
 
+-- a member refuses bytes with this number
 pub data Refusing (c : Crypto) (m : Member) (bytes : List ℕ) (n : ℕ) : Type 0 where
   -- the member was removed
   gone : m.gone ≡ true → n ≡ 40 → Refusing c m bytes n
@@ -89,7 +93,7 @@ pub data Refusing (c : Crypto) (m : Member) (bytes : List ℕ) (n : ℕ) : Type 
   unread : IsOther m bytes → decode_message bytes ≡ Err n → Refusing c m bytes n
   no_public : (w : MlsMessage) → IsOther m bytes → decode_message bytes ≡ Ok w → public_in w ≡ None → n ≡ 41 →
       Refusing c m bytes n
-  -- a check of every message fails: 42 to 48
+  -- a check of every message fails: `WrongGroup` (42) to `OwnUnknown` (48)
   unframed : (v : PublicMessage) → IsOther m bytes → decode_message bytes ≡ Ok (message.PublicMessage v) →
       framing_checks c m v bytes ≡ Err n → Refusing c m bytes n
   -- a proposal that isn't kept fails its checks
@@ -106,7 +110,7 @@ pub data Refusing (c : Crypto) (m : Member) (bytes : List ℕ) (n : ℕ) : Type 
   -- what is public fails its checks
   unsound : (v : PublicMessage) (commit : Commit) (tag : List ℕ) (used : List Used) → IsCommit c m bytes v commit tag →
       IsUsing m v.content commit used →
-      change_of_commit c m.public (sender_leaf v.content.sender) used commit (framed v.content) v.content.signature
+      change_of_commit c m.public (sender_leaf v.content.sender) used commit (framed_content_of v.content) v.content.signature
       ≡ Err n → Refusing c m bytes n
   -- the path doesn't open
   closed : (v : PublicMessage) (commit : Commit) (tag : List ℕ) (used : List Used) (change : Change) →
@@ -127,5 +131,6 @@ pub data Refusing (c : Crypto) (m : Member) (bytes : List ℕ) (n : ℕ) : Type 
 abbrev pub RefusedSo : Type 0
 RefusedSo = (c : Crypto) (m : Member) (bytes : List ℕ) (n : ℕ) → verdict c m bytes ≡ Err n → Refusing c m bytes n
 
+-- and wherever one of these is there, a verdict refuses them so
 abbrev pub SoRefused : Type 0
 SoRefused = (c : Crypto) (m : Member) (bytes : List ℕ) (n : ℕ) → Refusing c m bytes n → verdict c m bytes ≡ Err n

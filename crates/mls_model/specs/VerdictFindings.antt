@@ -1,5 +1,5 @@
 -- What a member found in a message that it took.
-use Rattle.std.specs.Prelude.{◌≡◌, ℕ, ◌==◌, true, false, not, ◌||◌, List, Some, is_some, Ok}
+use Rattle.std.specs.Prelude.{◌≡◌, ℕ, ◌==◌, true, false, not, ◌||◌, List, Some, None, is_some, Ok}
 use Rattle.std.specs.Str.{bytes_eq}
 use Rattle.mls_wire.specs.Checks.{passed}
 use Rattle.mls_leaf.specs.declared.leaf.LeafNode.{LeafNode}
@@ -18,9 +18,9 @@ use Rattle.mls_model.specs.declared.effect.Effect.TheVariants.{Proposed, Known, 
 use Rattle.mls_model.specs.PublicState.{Used}
 use Rattle.mls_model.specs.Proposals.{proposal_checks, removed_leaves}
 use Rattle.mls_model.specs.Commit.{Change, public_with}
-use Rattle.mls_model.specs.Member.{Pending, Member, kept_under, with_keys, keys_after_edits, with_kept, with_epoch, after_removal}
+use Rattle.mls_model.specs.Member.{KeptProposal, Pending, Member, kept_under, with_keys, keys_after_edits, with_kept, with_epoch, after_removal}
 use Rattle.mls_model.specs.Messages.{sender_leaf, is_handshake, is_content_signed, content_tag, reference_of}
-use Rattle.mls_model.specs.Verdict.{is_kept, kept_of, open_path_secret}
+use Rattle.mls_model.specs.Verdict.{is_kept, open_path_secret}
 
 -- ---- framing
 
@@ -31,17 +31,28 @@ pub record IsFramed (c : Crypto) (m : Member) (v : PublicMessage) (bytes : List 
   pub leaf : LeafNode
   pub sender : leaf_of m.public.tree (sender_leaf v.content.sender) ≡ Some leaf
   pub handshake : is_handshake v.content.body ≡ true
-  pub tag : bytes_eq v.membership_tag (content_tag m.epoch v.content m.public.context) ≡ true
+  pub tag : bytes_eq v.membership_tag (content_tag m.epoch_secret v.content m.public.context) ≡ true
   pub signed : is_content_signed c leaf.signature_key v.content m.public.context ≡ true
   pub other : (not (sender_leaf v.content.sender == m.keys.leaf) || is_kept m.kept bytes) ≡ true
 
 -- ---- proposals
+
+-- a received proposal as it is kept (RFC 9420, 5.2)
+abbrev pub kept_of : SignedContent → List ℕ → Proposal → KeptProposal
+kept_of v bytes proposal = record {
+  reference = reference_of v;
+  message = bytes;
+  proposal = proposal;
+  sender = sender_leaf v.sender;
+  own_key = None;
+}
 
 -- the proposal of a message was kept already
 pub record WasKnown (m : Member) (v : SignedContent) (x : Effect × Member) : Type 0 where
   pub kept : is_some (kept_under m.kept (reference_of v)) ≡ true
   pub is : (Known (reference_of v), m) ≡ x
 
+-- the proposal of a message was new, passed its checks, and is kept
 pub record IsNowKept (c : Crypto) (m : Member) (v : SignedContent) (bytes : List ℕ) (said : Proposal)
     (x : Effect × Member) : Type 0 where
   pub fresh : is_some (kept_under m.kept (reference_of v)) ≡ false
@@ -57,7 +68,8 @@ pub record WasRemoved (m : Member) (used : List Used) (x : Effect × Member) : T
 
 -- the epoch secret that a member reaches
 unfoldable pub reached_epoch : Member → Change → Climb → List ℕ
-reached_epoch m change climb = next_epoch_secret (init_secret m.epoch) climb.secret (group_context.spell change.context)
+reached_epoch m change climb =
+    next_epoch_secret (init_secret m.epoch_secret) climb.secret (group_context.spell change.context)
 
 -- a member followed a commit that wasn't its pending one
 pub record HasFollowed (c : Crypto) (m : Member) (v : SignedContent) (commit : Commit) (tag : List ℕ) (used : List Used)
@@ -78,4 +90,4 @@ pub record DidPending (m : Member) (bytes : List ℕ) (x : Effect × Member) : T
   pub pending : Pending
   pub is_pending : m.pending ≡ Some pending
   pub is_message : bytes_eq pending.message bytes ≡ true
-  pub is : (Advanced pending.public.context.epoch, with_epoch m pending.public pending.epoch pending.keys) ≡ x
+  pub is : (Advanced pending.public.context.epoch, with_epoch m pending.public pending.epoch_secret pending.keys) ≡ x

@@ -27,7 +27,8 @@ use Rattle.mls_model.specs.World.{World, Entrant, Seat, with_member, with_new_me
 
 -- ---- candidates and groups
 
--- a new candidate: `CandidateRepeated` (93) a candidate has the signature key already
+-- a new candidate (RFC 9420, 10): `CandidateRepeated` (93) a candidate has the signature key already, then the refusals
+-- of `new_candidate`
 unfoldable pub candidate_answer : Crypto → World → List ℕ → List ℕ → Result (Reply × World) ℕ
 candidate_answer c w identity seed = do
   require 93 (not (list_any (λ (e : Entrant).
@@ -41,8 +42,8 @@ candidate_answer c w identity seed = do
     },
   )
 
--- a candidate becomes the only member of a new group (RFC 9420, 11), and its journal begins: 92 no such candidate, 91 a
--- spent one
+-- a candidate becomes the only member of a new group (RFC 9420, 11), and its journal begins: `NoSuchCandidate` (92) no
+-- such candidate, `CandidateSpent` (91) a spent one, then the refusals of `create_group`
 unfoldable pub create_answer : Crypto → World → ℕ → List ℕ → List ℕ → Result (Reply × World) ℕ
 create_answer c w n group seed = do
   e ← entrant_at w n
@@ -61,8 +62,8 @@ proposal_answer w k s x = (
   record (with_member w k s x.1) { messages = w.messages ++ (x.0 ∷ []) },
 )
 
--- a member proposes to add the KeyPackage of a source (RFC 9420, 12.1.1): 90 no such member, then the refusals of
--- `package_of`
+-- a member proposes to add the KeyPackage of a source (RFC 9420, 12.1.1): `NoSuchMember` (90) no such member, then the
+-- refusals of `package_of` and of `propose_add`
 unfoldable pub propose_add_answer : Crypto → World → ℕ → Source → Result (Reply × World) ℕ
 propose_add_answer c w k source = do
   s ← seat_at w k
@@ -70,22 +71,22 @@ propose_add_answer c w k source = do
   x ← propose_add c s.member offered
   Ok (proposal_answer w k s x)
 
--- a member proposes to update its own leaf (RFC 9420, 12.1.2): 90 no such member
+-- a member proposes to update its own leaf (RFC 9420, 12.1.2): `NoSuchMember` (90) no such member
 unfoldable pub propose_update_answer : Crypto → World → ℕ → List ℕ → Result (Reply × World) ℕ
 propose_update_answer c w k seed = do
   s ← seat_at w k
   x ← propose_update c s.member seed
   Ok (proposal_answer w k s x)
 
--- a member proposes to remove a leaf (RFC 9420, 12.1.3): 90 no such member
+-- a member proposes to remove a leaf (RFC 9420, 12.1.3): `NoSuchMember` (90) no such member
 unfoldable pub propose_remove_answer : Crypto → World → ℕ → ℕ → Result (Reply × World) ℕ
 propose_remove_answer c w k leaf = do
   s ← seat_at w k
   x ← propose_remove c s.member leaf
   Ok (proposal_answer w k s x)
 
--- a member proposes the extensions that its group is to carry (RFC 9420, 12.1.7): 90 no such member; 14 no group may
--- carry them
+-- a member proposes the extensions that its group is to carry (RFC 9420, 12.1.7): `NoSuchMember` (90) no such member;
+-- `ExtensionNotAllowed` (14) no group may carry them
 unfoldable pub propose_extensions_answer : Crypto → World → ℕ → List Extension → Result (Reply × World) ℕ
 propose_extensions_answer c w k list = do
   s ← seat_at w k
@@ -100,8 +101,8 @@ unfoldable pub commit_record : World → ℕ → Seat → List ProposalOrRef →
 commit_record w k s list made = record {
   maker = k;
   journal = s.journal;
-  entry = record { commit = made.commit; names = names_in s.member.kept list };
-  epoch = made.pending.epoch;
+  entry = record { commit = made.commit; named_messages = names_in s.member.kept list };
+  epoch_secret = made.pending.epoch_secret;
   adds = adds_in s.member.kept list;
   welcome = option_map (λ bytes. (length w.messages + 1, bytes)) made.welcome;
 }
@@ -112,7 +113,7 @@ commit_messages made None = made.commit ∷ []
 commit_messages made (Some welcome) = made.commit ∷ (welcome ∷ [])
 
 -- a member makes a commit of what its list stands for (RFC 9420, 12.4.1) and has it as pending, and the world has the
--- messages and the record: 90 no such member, then the refusals of `items_of`
+-- messages and the record: `NoSuchMember` (90) no such member, then the refusals of `items_of` and of `make`
 unfoldable pub commit_answer : Crypto → World → ℕ → List WorldItem → Bool → List ℕ → Result (Reply × World) ℕ
 commit_answer c w k items path seed = do
   s ← seat_at w k
@@ -122,11 +123,11 @@ commit_answer c w k items path seed = do
     reply.Commit (length w.messages) (option_map (λ (bytes : List ℕ). length w.messages + 1) made.welcome),
     record (with_member w k s (with_pending s.member made.pending)) {
       messages = w.messages ++ commit_messages made made.welcome;
-      made = w.made ++ (commit_record w k s list made ∷ []);
+      commits = w.commits ++ (commit_record w k s list made ∷ []);
     },
   )
 
--- a member drops its pending commit, and the reply says whether there was one: 90 no such member
+-- a member drops its pending commit, and the reply says whether there was one: `NoSuchMember` (90) no such member
 unfoldable pub drop_answer : World → ℕ → Result (Reply × World) ℕ
 drop_answer w k = do
   s ← seat_at w k
@@ -139,7 +140,8 @@ abbrev pub journal_after : Seat → List ℕ → Effect → Journal
 journal_after s bytes (Advanced epoch) = with_entry s.journal (entry_of s.member bytes)
 journal_after s bytes other = s.journal
 
--- a member does with the bytes of a source what its verdict says (RFC 9420, 6): 90 no such member, 94 no such message
+-- a member does with the bytes of a source what its verdict says (RFC 9420, 6): `NoSuchMember` (90) no such member,
+-- `NoSuchMessage` (94) no such message
 unfoldable pub deliver_answer : Crypto → World → ℕ → Source → Result (Reply × World) ℕ
 deliver_answer c w k source = do
   s ← seat_at w k
@@ -150,8 +152,8 @@ deliver_answer c w k source = do
     record w { seats = slice_set w.seats k (record { member = x.1; journal = journal_after s bytes x.0 }) },
   )
 
--- a candidate joins by the bytes of a source as one more member, and is spent (RFC 9420, 12.4.3.1): 92 no such
--- candidate, 91 a spent one, 94 no such message
+-- a candidate joins by the bytes of a source as one more member, and is spent (RFC 9420, 12.4.3.1):
+-- `NoSuchCandidate` (92) no such candidate, `CandidateSpent` (91) a spent one, `NoSuchMessage` (94) no such message
 unfoldable pub join_answer : Crypto → World → ℕ → Source → Result (Reply × World) ℕ
 join_answer c w n source = do
   e ← entrant_at w n
@@ -161,6 +163,6 @@ join_answer c w n source = do
     reply.Joined (length w.seats) j.member.public.context.epoch,
     with_new_member w n e (record {
       member = j.member;
-      journal = joiner_journal (commit_for_joiner w.made source e.candidate) j.info;
+      journal = joiner_journal (commit_for_joiner w.commits source e.candidate) j.info;
     }),
   )

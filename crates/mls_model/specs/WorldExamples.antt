@@ -17,12 +17,12 @@ use Rattle.mls_model.specs.Run.{replies}
 
 -- a commit with this one byte, that names nothing
 abbrev pub entry_with : ℕ → Entry
-entry_with n = record { commit = n ∷ []; names = [] }
+entry_with n = record { commit = n ∷ []; named_messages = [] }
 
 -- a commit with this one byte was made at this journal and reached this epoch secret
 abbrev pub made_at : Journal → ℕ → ℕ → CommitMade
 made_at j n epoch =
-    record { maker = 0; journal = j; entry = entry_with n; epoch = epoch ∷ []; adds = []; welcome = None }
+    record { maker = 0; journal = j; entry = entry_with n; epoch_secret = epoch ∷ []; adds = []; welcome = None }
 
 abbrev pub created_0 : Journal
 created_0 = new_journal (Creation 0)
@@ -65,7 +65,7 @@ welcoming adds number bytes =
       maker = 0;
       journal = created_0;
       entry = entry_with 1;
-      epoch = [];
+      epoch_secret = [];
       adds = adds;
       welcome = Some (number, bytes);
     }
@@ -102,10 +102,10 @@ one_seated k s = record {
   entrants = record { candidate = k; is_spent = true } ∷ [];
   seats = s ∷ [];
   messages = [];
-  made = [];
+  commits = [];
 }
 
--- a world answers 91 before 94, and 94 before what the member says
+-- a world answers `CandidateSpent` (91) before `NoSuchMessage` (94), and this before what the member says
 abbrev pub WorldFirst : Type 0
 WorldFirst = (c : Crypto) (k : Candidate) (s : Seat) →
     replies c (one_seated k s)

@@ -23,6 +23,7 @@ xor_front [] s = []
 xor_front (x ∷ xs) [] = x ∷ xs
 xor_front (x ∷ xs) (y ∷ ys) = bit_xor x y ∷ xor_front xs ys
 
--- the nonce of a content (RFC 9420, 6.3.1): the first four bytes of a ratchet's nonce by exclusive or with the reuse guard
+-- the nonce of a content (RFC 9420, 6.3.1): the first four bytes of a ratchet's nonce by exclusive or with the reuse
+-- guard
 unfoldable pub guarded_nonce : List ℕ → ℕ → List ℕ
 guarded_nonce nonce reuse_guard = xor_front nonce (to_be_bytes w32 reuse_guard)

@@ -5,8 +5,8 @@ use Rattle.std.proofs.Common.{lit<}
 use Rattle.mls_wire.specs.Reading.{uint, mark_at, opaque}
 use Rattle.mls_wire.specs.Format.{Format, Skip}
 use Rattle.mls_wire.specs.Laws.{wide8, mark_takes, mark_again}
-use Rattle.mls_wire.specs.CombineLaws.{IsNonempty}
-use Rattle.mls_wire.specs.Combine.{◌⨾◌, seen, behind, mark, byte_string, uint64}
+use Rattle.mls_wire.specs.Combine.{◌⨾◌, image, behind, mark, byte_string, uint64}
+use Rattle.mls_wire.specs.CombineReads.{IsNonempty}
 use Rattle.mls_leaf.specs.Nonempty.{behind_nonempty, mark_nonempty}
 use Rattle.mls_private_message.specs.declared.private_message.PrivateMessage.{PrivateMessage}
 
@@ -19,11 +19,11 @@ application_type = record {
   again = mark_again w8 (2 ^ 8) wide8 1 7 (lit< tt);
 }
 
--- PrivateMessage (RFC 9420, 6.3) from the group's identifier on: group_id<V>, uint64 epoch, uint8 content_type (1, else 7),
--- authenticated_data<V>, encrypted_sender_data<V>, ciphertext<V>
+-- PrivateMessage (RFC 9420, 6.3) from the group's identifier on: group_id<V>, uint64 epoch, uint8 content_type (1, else
+-- `BadTag` (7)), authenticated_data<V>, encrypted_sender_data<V>, ciphertext<V>
 unfoldable pub private_fields : Format PrivateMessage
 private_fields =
-    seen (byte_string ⨾ uint64 ⨾ behind application_type (byte_string ⨾ byte_string ⨾ byte_string))
+    image (byte_string ⨾ uint64 ⨾ behind application_type (byte_string ⨾ byte_string ⨾ byte_string))
     (λ x. record {
       group_id = x.0;
       epoch = x.1.0;
@@ -34,7 +34,8 @@ private_fields =
     (λ v. (v.group_id, (v.epoch, (v.authenticated_data, (v.encrypted_sender_data, v.ciphertext)))))
     (λ v. refl) (λ x _. refl)
 
--- MLSMessage with a PrivateMessage (RFC 9420, 6): uint16 version (1, else 7), uint16 wire_format (2, else 7), PrivateMessage
+-- MLSMessage with a PrivateMessage (RFC 9420, 6): uint16 version (1, else `BadTag` (7)), uint16 wire_format (2, else
+-- `BadTag` (7)), PrivateMessage
 unfoldable pub private_message : Format PrivateMessage
 private_message = behind (mark 1 7 (lit< tt)) (behind (mark 2 7 (lit< tt)) private_fields)
 

@@ -1,14 +1,14 @@
 -- The format of sender data (RFC 9420, 6.3.2).
 use Rattle.std.specs.Prelude.{ℕ, List, length, ◌==◌, if◌then◌else◌, Option, Some, None, Result, Ok, Err, refl}
 use Rattle.mls_wire.specs.Format.{Format}
-use Rattle.mls_wire.specs.CombineLaws.{IsNonempty}
-use Rattle.mls_wire.specs.Combine.{◌⨾◌, seen, uint32}
+use Rattle.mls_wire.specs.Combine.{◌⨾◌, image, uint32}
+use Rattle.mls_wire.specs.CombineReads.{IsNonempty}
 use Rattle.mls_leaf.specs.Nonempty.{uint32_nonempty, first_nonempty}
 use Rattle.mls_private_message.specs.declared.sender_data.SenderData.{SenderData}
 
 -- SenderData (RFC 9420, 6.3.2): uint32 leaf_index, uint32 generation, reuse_guard[4], here as a uint32
 unfoldable pub sender_data : Format SenderData
-sender_data = seen (uint32 ⨾ uint32 ⨾ uint32)
+sender_data = image (uint32 ⨾ uint32 ⨾ uint32)
     (λ x. record { leaf_index = x.0; generation = x.1.0; reuse_guard = x.1.1 })
     (λ v. (v.leaf_index, (v.generation, v.reuse_guard)))
     (λ v. refl) (λ x _. refl)

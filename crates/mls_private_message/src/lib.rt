@@ -9,8 +9,6 @@ mod laws;
 mod private_message;
 mod sealing;
 mod sender_data;
-#[cfg(test)]
-mod tests;
 
 pub use content::{ReadContent, read_content, write_content};
 pub use error::PrivateMessageError;

@@ -44,19 +44,8 @@ fn print_found(
 
 /// A digest of the ten secrets of an epoch.
 fn print_epoch(rt: &impl Print, alloc: Global, part: &str, epoch: &Epoch) -> Result<()> {
-    let secrets: [&[u8]; 10] = [
-        epoch.epoch_secret(),
-        epoch.sender_data_secret(),
-        epoch.encryption_secret(),
-        epoch.exporter_secret(),
-        epoch.external_secret(),
-        epoch.confirmation_key(),
-        epoch.membership_key(),
-        epoch.resumption_psk(),
-        epoch.epoch_authenticator(),
-        epoch.init_secret(),
-    ];
-    print_bytes(rt, alloc, part, "secrets", &hash(&secrets))
+    let secrets = epoch.secrets().concat(alloc)?;
+    print_bytes(rt, alloc, part, "secrets", &hash(&[&secrets]))
 }
 
 /// The private keys of a member.
@@ -100,7 +89,7 @@ pub(crate) fn print_member(
     print_epoch(rt, alloc, part, member.secrets())?;
     print_keys(rt, alloc, part, member)?;
     print_saved(rt, alloc, part, member)?;
-    print_found(rt, alloc, part, "kept", member.kept(reference))?;
+    print_found(rt, alloc, part, "kept", member.kept_message(reference))?;
     match member.pending_secret() {
         Some(secret) => print_bytes(rt, alloc, part, "pending_secret", secret),
         None => print_found(rt, alloc, part, "pending_secret", None),

@@ -1,11 +1,12 @@
 -- The updates, removes and adds of a commit, one proposal after the other.
 use Rattle.std.proofs.Common.{◌≡◌, ℕ, ◌+◌, ◌<◌, ◌≤◌, ◌==◌, nat_eq, nat_le, Bool, true, false, ◌||◌, List, [], ◌∷◌, ◌++◌, length, get_or, drop, Option, Some, None, Result, Ok, Err, refl, sym, ap, ◌∙◌, arith, append-nil, append_assoc, length-append}
 use Rattle.std.proofs.lemmas.Bool.{le-leb, lt-leb}
+use Rattle.std.proofs.lemmas.List.{length-map}
 use Rattle.std.specs.Prelude.{map, if◌then◌else◌}
 use Rattle.std.specs.List.{cons_option, list_any}
 use Rattle.mls_wire.specs.Checks.{Passed, passed, ◌>>◌}
 use Rattle.mls_suite.specs.Crypto.{Crypto}
-use Rattle.mls_tree_model.specs.Sets.{has, is_distinct}
+use Rattle.mls_tree_model.specs.Sets.{has, same_bytes, count, is_distinct}
 use Rattle.mls_wire.specs.Reading.{◌>>=◌}
 use Rattle.mls_wire.specs.Laws.{ok_is}
 use Rattle.mls_leaf.specs.declared.extension.Extension.{Extension}
@@ -16,7 +17,7 @@ use Rattle.mls_leaf.specs.declared.proposal.Proposal.TheVariants.{Add, Update, R
 use Rattle.mls_tree_model.specs.Term.{Term}
 use Rattle.mls_tree.specs.Tree.{add_answer, update_answer, remove_answer}
 use Rattle.mls_model.specs.PublicState.{PublicState, Used}
-use Rattle.mls_model.specs.Proposals.{update_in, remove_in, add_in, extensions_in, updates, updated_leaves, removed_leaves, adds, extension_lists, first_list, extended, package_reference, proposal_checks, full_checks}
+use Rattle.mls_model.specs.Proposals.{update_in, remove_in, add_in, extensions_in, updates, updated_leaves, removed_leaves, adds, extension_lists, first_list, extensions_after, package_reference, proposal_checks, full_checks}
 use Rattle.mls_model.specs.Commit.{Edits, apply_updates, apply_removes, apply_adds}
 use Rattle.mls_public_group.specs.ProposalList.{proposal_list_checks, edit_tree, prepend_added}
 use Rattle.mls_public_group.proofs.Rest.{here, over}
@@ -258,21 +259,21 @@ listed : (p : Proposal) (list : List Extension) → p ≡ GroupContextExtensions
 listed p list is = rw is refl
 
 module _ (old : List Extension) (us : List Used) (k : ℕ) (u v : Used) (lt : k < length us) (at : u ≡ get_or us k u) (seen : v ≡ u) where
-  from_here : extended old (drop k us) ≡ extended old (v ∷ drop (k + 1) us)
-  from_here = ap (extended old) (here us k u lt at) ∙ ap (λ (w : Used). extended old (w ∷ drop (k + 1) us)) (sym seen)
+  from_here : extensions_after old (drop k us) ≡ extensions_after old (v ∷ drop (k + 1) us)
+  from_here = ap (extensions_after old) (here us k u lt at) ∙ ap (λ (w : Used). extensions_after old (w ∷ drop (k + 1) us)) (sym seen)
 
   -- the first list that is found
-  pub list_found : (list : List Extension) → v.proposal ≡ GroupContextExtensions list → extended old (drop k us) ≡ list
-  unfolding extended extension_lists
+  pub list_found : (list : List Extension) → v.proposal ≡ GroupContextExtensions list → extensions_after old (drop k us) ≡ list
+  unfolding extensions_after extension_lists
   list_found list is = from_here ∙ first_of old (extensions_in v.proposal) list (extension_lists (drop (k + 1) us)) (listed v.proposal list is)
 
-  pub list_passed : ((list : List Extension) → v.proposal ≡ GroupContextExtensions list → ⊥) → extended old (drop k us) ≡ extended old (drop (k + 1) us)
-  unfolding extended extension_lists
+  pub list_passed : ((list : List Extension) → v.proposal ≡ GroupContextExtensions list → ⊥) → extensions_after old (drop k us) ≡ extensions_after old (drop (k + 1) us)
+  unfolding extensions_after extension_lists
   list_passed other = from_here ∙ later_of old (extensions_in v.proposal) (extension_lists (drop (k + 1) us)) (no_list v.proposal other)
 
-pub extended_over : (old : List Extension) (us : List Used) (k : ℕ) → length us ≤ k → extended old (drop k us) ≡ old
-unfolding extended extension_lists
-extended_over old us k le = ap (extended old) (over us k le)
+pub extended_over : (old : List Extension) (us : List Used) (k : ℕ) → length us ≤ k → extensions_after old (drop k us) ≡ old
+unfolding extensions_after extension_lists
+extended_over old us k le = ap (extensions_after old) (over us k le)
 
 -- ---- updates
 
@@ -439,3 +440,37 @@ adds_end t front = ap (λ xs. Ok (made t xs)) (append-nil front)
 pub adds_alone : (r : Result Edits ℕ) → prepend_added [] r ≡ r
 adds_alone (Ok e) = refl
 adds_alone (Err n) = refl
+
+-- ---- how many KeyPackages are added
+
+-- what one proposal adds
+module _ (u v : Used) (seen : v ≡ u) where
+  pub one_add : (x : KeyPackage) → v.proposal ≡ Add x → length (adds (u ∷ [])) ≡ 1
+  one_add x is = ap (λ (w : Used). length (adds (w ∷ []))) (sym seen) ∙ ap length (add_is v x is)
+
+  pub no_adds : ((x : KeyPackage) → v.proposal ≡ Add x → ⊥) → length (adds (u ∷ [])) ≡ 0
+  no_adds other = ap (λ (w : Used). length (adds (w ∷ []))) (sym seen) ∙ ap length (add_isnt v other)
+
+-- those that are counted, and those to come
+pub adds_from : (us : List Used) (k : ℕ) (u : Used) → k < length us → u ≡ get_or us k u → length (adds (drop k us)) ≡ length (adds (u ∷ [])) + length (adds (drop (k + 1) us))
+adds_from us k u lt at =
+    ap (λ (l : List Used). length (adds l)) (here us k u lt at)
+    ∙ ap length (adds_split u (drop (k + 1) us))
+    ∙ length-append (adds (u ∷ [])) (adds (drop (k + 1) us))
+
+adds_none : length (adds []) ≡ 0
+unfolding adds
+adds_none = refl
+
+pub adds_over : (us : List Used) (k : ℕ) → length us ≤ k → length (adds (drop k us)) ≡ 0
+adds_over us k le = ap (λ (l : List Used). length (adds l)) (over us k le) ∙ adds_none
+
+distinct_below : (xs : List (List ℕ)) → length xs < 2 → is_distinct same_bytes xs ≡ true
+unfolding is_distinct count
+distinct_below [] lt = refl
+distinct_below (x ∷ []) lt = refl
+distinct_below (x ∷ (y ∷ ys)) lt = absurd (omega (arith, lt))
+
+-- fewer than two have no reference twice
+pub few_distinct : (used : List Used) (n : ℕ) → n ≡ length (adds used) → n < 2 → is_distinct same_bytes (map package_reference (adds used)) ≡ true
+few_distinct used n counted few = distinct_below (map package_reference (adds used)) (omega (arith, length-map (adds used) package_reference, counted, few))

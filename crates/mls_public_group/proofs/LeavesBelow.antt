@@ -13,7 +13,7 @@ use Rattle.mls_leaf.specs.declared.node.Node.TheVariants.{Leaf as in_leaf, Paren
 use Rattle.mls_types.specs.GroupInfo.{ratchet_tree}
 use Rattle.mls_treemath.specs.Paths.{nodes_in}
 use Rattle.mls_tree_model.specs.Term.{Term, leaf_at, leaf_of, width}
-use Rattle.mls_tree_model.specs.Arrays.{leaf_in, term_of, padded, height_for, sent_term, from_nodes}
+use Rattle.mls_tree_model.specs.Arrays.{leaf_in, term_of, with_padding, height_for, sent_term, from_nodes}
 use Rattle.mls_tree.specs.Tree.{max_leaves}
 use Rattle.mls_tree.proofs.Cells.{Cells, of_front, of_back, of_padded}
 use Rattle.mls_tree.proofs.SentLemmas.{sent_is}
@@ -58,7 +58,7 @@ of_spelled n (c ∷ cs) fits lt zero = of_cell n c fits.0 (omega (arith, length-
 of_spelled n (c ∷ cs) fits lt (suc k) = of_spelled n cs fits.1 (omega (arith, length-append ((optional node).spell c) (flat_map (optional node).spell cs))) k
 
 of_sent : (n : ℕ) (xs : List (Option Node)) → Cells (CellBelow n) xs → HasLeavesBelow n (sent_term xs)
-unfolding sent_term padded
+unfolding sent_term with_padding
 of_sent n xs all = of_tree n (height_for (length xs)) _ (of_padded (CellBelow n) tt _ xs all)
 
 -- the leaves of the tree that nodes of fewer than n bytes stand for are as short

@@ -4,9 +4,10 @@ use Rattle.std.specs.List.{list_all}
 use Rattle.std.proofs.lemmas.Bool.{lt-ltb, le-leb, lt-leb, leb-true, and_from, and_left, cases_lt, cond-true}
 use Rattle.mls_wire.specs.Checks.{passed, require}
 use Rattle.mls_wire.specs.Format.{Format, IsBytes}
-use Rattle.mls_leaf.specs.Faults.{Spells, whole}
+use Rattle.mls_wire.specs.Whole.{whole}
+use Rattle.mls_leaf.specs.Faults.{Spells}
 use Rattle.mls_leaf.specs.Limits.{input_limit}
-use Rattle.mls_model.specs.Messages.{are_bytes, is_within_limit}
+use Rattle.mls_model.specs.Messages.{are_bytes, require_within_limit}
 use Rattle.mls_public_group.specs.Short.{IsBelow}
 
 pub all_bytes : (bytes : List ℕ) → IsBytes bytes → list_all (λ (b : ℕ). nat_lt b 256) bytes ≡ true
@@ -28,18 +29,18 @@ first_of n true b e = refl
 first_of n false b e = absurd cc
 
 -- code's bytes are within the limit, if there aren't more
-pub within_limit : (bytes : List ℕ) → IsBytes bytes → length bytes ≤ input_limit → is_within_limit bytes ≡ Ok passed
-unfolding is_within_limit are_bytes
+pub within_limit : (bytes : List ℕ) → IsBytes bytes → length bytes ≤ input_limit → require_within_limit bytes ≡ Ok passed
+unfolding require_within_limit are_bytes
 within_limit bytes h le = passes 6 _ (and_from (nat_le (length bytes) input_limit) (list_all (λ (b : ℕ). nat_lt b 256) bytes) (le-leb _ _ le) (all_bytes bytes h))
 
 -- what is longer is refused
-pub past_limit : (bytes : List ℕ) → input_limit < length bytes → is_within_limit bytes ≡ Err 6
-unfolding is_within_limit
+pub past_limit : (bytes : List ℕ) → input_limit < length bytes → require_within_limit bytes ≡ Err 6
+unfolding require_within_limit
 past_limit bytes lt = fails 6 _ (and_left (nat_le (length bytes) input_limit) (are_bytes bytes) (lt-leb _ _ lt))
 
 -- and what isn't refused is no longer
-pub length_within : (bytes : List ℕ) → is_within_limit bytes ≡ Ok passed → length bytes ≤ input_limit
-unfolding is_within_limit
+pub length_within : (bytes : List ℕ) → require_within_limit bytes ≡ Ok passed → length bytes ≤ input_limit
+unfolding require_within_limit
 length_within bytes h = leb-true _ _ (first_of 6 _ _ h)
 
 -- ---- what is read whole

@@ -24,7 +24,7 @@ use Rattle.mls_tree_model.proofs.LengthLaws.{length-tree_hash}
 use Rattle.mls_tree_model.specs.Term.{Term}
 use Rattle.mls_checks.specs.Short.{IsShort}
 use Rattle.mls_model.specs.PublicState.{Used, provisional_context}
-use Rattle.mls_model.specs.Proposals.{update_in, add_in, extensions_in, updates, adds, extension_lists, first_list, extended}
+use Rattle.mls_model.specs.Proposals.{update_in, add_in, extensions_in, updates, adds, extension_lists, first_list, extensions_after}
 use Rattle.mls_public_group.specs.Short.{AreBelow, IsBelow, IsProposalBelow, IsShortContext}
 use Rattle.mls_public_group.proofs.Lengths.{context_length}
 
@@ -129,8 +129,8 @@ module _ (n : ℕ) where
   extended_here old (GroupContextExtensions list) lists b h = list_below list b
 
   -- the list that a group carries after them is as short as they and the old one
-  pub extended_below : (old : List Extension) (used : List Used) → IsBelow n group_extensions old → AllByRecursion (λ (u : Used). IsBelow n proposal_format u.proposal) used → IsBelow n group_extensions (extended old used)
-  unfolding extended extension_lists
+  pub extended_below : (old : List Extension) (used : List Used) → IsBelow n group_extensions old → AllByRecursion (λ (u : Used). IsBelow n proposal_format u.proposal) used → IsBelow n group_extensions (extensions_after old used)
+  unfolding extensions_after extension_lists
   extended_below old [] h all = h
   extended_below old (u ∷ us) h all = extended_here old u.proposal (extension_lists us) all.0 (extended_below old us h all.1)
 

@@ -17,7 +17,7 @@ use Rattle.mls_tree_model.specs.Term.{Term, Leaf, Branch}
 
 -- ---- leaves and parents
 
-abbrev coded_bytes : Coded (List ℕ)
+abbrev pub coded_bytes : Coded (List ℕ)
 coded_bytes = coded_list coded_ℕ
 
 abbrev coded_capabilities : Coded Capabilities

@@ -13,16 +13,17 @@ use Rattle.mls_model.specs.Proposals.{proposal_checks}
 use Rattle.mls_public_group.specs.declared.error.GroupError.{GroupError}
 use Rattle.mls_public_group.specs.Faults.{number_of}
 
--- 22 where no member is at the leaf
+-- `NoSuchLeaf` (22) where no member is at the leaf
 abbrev pub member_check : Term → ℕ → Result Passed ℕ
 member_check t i = require 22 (is_some (leaf_of t i))
 
--- of an update, 22 is answered where no member is at its sender's leaf, whatever memory there is
+-- of an update, `NoSuchLeaf` (22) is answered where no member is at its sender's leaf, whatever memory there is
 abbrev pub RefusesUpdate : {A : Type 0} → Term → ℕ → Proposal → Result A GroupError → Type 0
 RefusesUpdate t sender p result =
     (l : LeafNode) → p ≡ Update l → RefusesOutright number_of (member_check t sender) result
 
--- of a remove, the call answers just whether a member is there, and 22 where none is, whatever memory there is
+-- of a remove, the call answers just whether a member is there, and `NoSuchLeaf` (22) where none is, whatever memory
+-- there is
 abbrev pub AnswersRemove : {A : Type 0} → Term → Proposal → Result A GroupError → Type 0
 AnswersRemove t p result =
     (i : ℕ) → p ≡ Remove i → AnswersOutright (λ _. passed) number_of (member_check t i) result

@@ -13,8 +13,8 @@ use Rattle.mls_tree.specs.Tree.{Tree, term}
 use Rattle.mls_public_group.specs.declared.error.GroupError.{GroupError}
 use Rattle.mls_public_group.specs.Faults.{number_of}
 
--- 61 an update of the committer, 62 its removal, 63 two updates or removes of one leaf, 68 two lists of extensions (RFC
--- 9420, 12.2)
+-- `CommitterUpdate` (61) an update of the committer, `CommitterRemoved` (62) its removal, `SameLeafTwice` (63) two
+-- updates or removes of one leaf, `SecondExtensions` (68) two lists of extensions (RFC 9420, 12.2)
 unfoldable pub proposal_list_checks : ℕ → List Used → Result Passed ℕ
 proposal_list_checks committer used = do
   require 61 (not (has (updated_leaves used) committer))
@@ -29,7 +29,8 @@ edit_tree t used = do
   after_removes ← apply_removes after_updates (removed_leaves used)
   apply_adds after_removes (adds used)
 
--- 26 two members have one signature key, or two adds one reference; 25 two nodes have one encryption key (RFC 9420, 7.3)
+-- `ClientRepeated` (26) two members have one signature key, or two adds one reference; `KeyRepeated` (25) two nodes
+-- have one encryption key (RFC 9420, 7.3)
 unfoldable pub edited_tree_checks : Edits → List Used → Result Passed ℕ
 edited_tree_checks e used = do
   require 26 (has_distinct_clients e.tree)
@@ -51,12 +52,14 @@ with_reference front used = front ++ added_references (used ∷ [])
 
 -- The call makes the updates in a tree, or refuses with the number of the first that fails, memory aside.
 abbrev pub AppliesUpdates : {A : Type 0} → List Used → Tree → Tree → Result A GroupError → Type 0
-AppliesUpdates used old new result = Answers (λ _. term new) number_of (apply_updates (term old) (updates used)) result
+AppliesUpdates used old new result =
+    Answers (λ _. term new) number_of (apply_updates (term old) (updates used)) result
 
 -- The call removes the members at these leaves from a tree, or refuses with the number of the first that fails, memory
 -- aside.
 abbrev pub AppliesRemoves : {A : Type 0} → List ℕ → Tree → Tree → Result A GroupError → Type 0
-AppliesRemoves leaves old new result = Answers (λ _. term new) number_of (apply_removes (term old) leaves) result
+AppliesRemoves leaves old new result =
+    Answers (λ _. term new) number_of (apply_removes (term old) leaves) result
 
 -- a tree and the leaves that were added to it
 abbrev pub edits_of : Tree → List ℕ → Edits
@@ -64,9 +67,11 @@ edits_of t added = record { tree = term t; added = added }
 
 -- The call makes an add in a tree, and puts its leaf behind those that were added before, or refuses with the number of
 -- what fails, memory aside. It leaves the tree as it is where the proposal is none.
-abbrev pub AppliesAdd : {A : Type 0} → Used → Tree → List ℕ → Tree → List ℕ → Result A GroupError → Type 0
+abbrev pub AppliesAdd : {A : Type 0} → Used → Tree → List ℕ → Tree → List ℕ → Result A GroupError →
+    Type 0
 AppliesAdd used old front new added result =
-    Answers (λ _. edits_of new added) number_of (prepend_added front (apply_adds (term old) (adds (used ∷ [])))) result
+    Answers (λ _. edits_of new added) number_of
+    (prepend_added front (apply_adds (term old) (adds (used ∷ [])))) result
 
 -- The call makes the adds in a tree, and answers the leaves that they added, or refuses with the number of the first
 -- that fails, memory aside.

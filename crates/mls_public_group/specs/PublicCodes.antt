@@ -1,16 +1,13 @@
 -- Codes of the states of groups.
 use Rattle.std.specs.Prelude.{ℕ, List}
 use Rattle.std.proofs.Common.{refl}
-use Rattle.std.specs.Coded.{Coded, code_by, coded×, coded_ℕ, coded_list}
+use Rattle.std.specs.Coded.{Coded, code_by, coded×, coded_ℕ}
 use Rattle.mls_types.specs.declared.group_context.GroupContext.{GroupContext}
 use Rattle.mls_tree_model.specs.Term.{Term}
 use Rattle.mls_model.specs.PublicState.{PublicState}
 use Rattle.mls_model.specs.Commit.{Edits}
 use Rattle.mls_leaf.specs.declared.extension.Extension.{Extension}
-use Rattle.mls_public_group.specs.Codes.{coded_extensions, coded_tree}
-
-abbrev coded_bytes : Coded (List ℕ)
-coded_bytes = coded_list coded_ℕ
+use Rattle.mls_public_group.specs.Codes.{coded_bytes, coded_extensions, coded_tree}
 
 abbrev pub coded_context : Coded GroupContext
 coded_context =

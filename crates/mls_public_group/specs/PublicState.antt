@@ -12,6 +12,7 @@ public_of context tree interim = record { context = context; tree = tree; interi
 
 -- the context answered is the next epoch's with these extensions and the tree that has this hash, and as yet with the
 -- old transcript
-abbrev pub IsProvisional : {E : Type 0} → GroupContext → List Extension → List ℕ → Result GroupContext E → Type 0
+abbrev pub IsProvisional : {E : Type 0} → GroupContext → List Extension → List ℕ →
+    Result GroupContext E → Type 0
 IsProvisional old list hash result =
     (t : Term) → hash ≡ tree_hash 0 t → IfOk result (λ g. g ≡ provisional_context old list t)

@@ -2,7 +2,7 @@
 
 ghost use Rattle.std.specs.Prelude.{◌≡◌, ◌≤◌, ◌^◌, [], ◌∷◌, true, length};
 ghost use Rattle.mls_leaf.specs.GroupExtensions.{group_extensions, is_short};
-ghost use Rattle.mls_model.specs.Proposals.{extended, extension_lists};
+ghost use Rattle.mls_model.specs.Proposals.{extensions_after, extension_lists};
 ghost use Rattle.mls_public_group.specs.Short.{IsBelow};
 
 use crate::group::PublicGroup;
@@ -35,7 +35,7 @@ impl PublicGroup {
     /// The extensions that the group carries after these proposals: those of the first list among them, or its own
     /// where there is none (RFC 9420, 12.1.7).
     pub fn extensions_after<'a>(&'a self, used: &[Used<'a>]) -> &'a GroupExtensions
-        ensures { result.now ≡ extended self.now.context.extensions used.now }
+        ensures { result.now ≡ extensions_after self.now.context.extensions used.now }
     {
         for one in used {
             if let Proposal::GroupContextExtensions(list) = one.proposal {

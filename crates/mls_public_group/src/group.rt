@@ -67,6 +67,32 @@ impl PublicGroup {
         })
     }
 
+    /// The public state of the next epoch, with this context and transcript, and the next tree of the one after a
+    /// commit's edits.
+    pub fn next(
+        alloc: Global,
+        context: GroupContext,
+        edited: SharedTree,
+        tree: NextTree,
+        transcript: Transcript,
+    ) -> Result<PublicGroup, AllocError>
+        requires context { IsShortContext context }
+        requires follows { IsPreparedFor (term edited) tree }
+        requires leaves { HasLeavesBelow (2 ^ 27) (next_term (term edited) tree) }
+        ensures { IfOk result
+            (λ g. g ≡ public_of context (next_term (term edited) tree) transcript) }
+    {
+        let bytes = spelling(alloc, &context)?;
+        let mut shared = edited;
+        shared.enter(tree)?;
+        Ok(PublicGroup {
+            context,
+            bytes,
+            tree: shared,
+            transcript,
+        })
+    }
+
     /// Begins the next epoch, with this context, tree and transcript. Without memory the group is as before.
     pub fn enter(
         &mut self,

@@ -13,7 +13,7 @@ ghost use Rattle.mls_public_group.specs.ProposalChecks.{AnswersExtensions, Answe
 use crate::error::GroupError;
 use crate::group::PublicGroup;
 use crate::used_proposal::Used;
-use mls_checks::{CheckError, Source, key_package, replaced};
+use mls_checks::{CheckError, LeafUse, check_replacement, key_package};
 use mls_leaf::{LeafNode, Proposal};
 use mls_suite::Suite;
 use mls_tree::TreeError;
@@ -61,7 +61,7 @@ impl PublicGroup {
             return Err(GroupError::Tree(TreeError::NoSuchLeaf));
         };
         let group_id = context.group_id.as_slice();
-        replaced::<S>(alloc, leaf, old, Source::Update, group_id, sender)?;
+        check_replacement::<S>(alloc, leaf, old, LeafUse::Update, group_id, sender)?;
         if !S::key_ok(leaf.encryption_key.as_slice()) {
             return Err(GroupError::Check(CheckError::BadKey));
         }

@@ -30,7 +30,7 @@ impl Model for SharedTree {
 
     ghost view = { λ s. s.tree.value };
 
-    ghost invariant = { λ s. (s.tree.value.kept ≡ hashes_of 0 (term s.tree.value)) × (s.hash ≡ tree_hash 0 (term s.tree.value)) };
+    ghost invariant = { λ s. (s.tree.value.hashes ≡ hashes_of 0 (term s.tree.value)) × (s.hash ≡ tree_hash 0 (term s.tree.value)) };
 }
 
 impl SharedTree {
@@ -50,7 +50,7 @@ impl SharedTree {
     /// The tree, which keeps all of its hashes.
     pub fn as_tree(&self) -> &PublicTree
         ensures tree { result.now ≡ self.now }
-        ensures hashed { result.now.kept ≡ hashes_of 0 (term result.now) }
+        ensures hashed { result.now.hashes ≡ hashes_of 0 (term result.now) }
     {
         self.tree.as_ref()
     }

@@ -6,7 +6,8 @@ use Rattle.mls_wire.specs.Checks.{Answers, AnswersOutright, Passed, passed}
 abbrev pub Loads : {A E : Type 0} → (E → ℕ) → Result A ℕ → Result A E → Type 0
 Loads number defined result = Answers (λ x. x) number defined result
 
--- These checks pass, or the call refuses with the number of the first that fails. Where memory was refused it says nothing.
+-- These checks pass, or the call refuses with the number of the first that fails. Where memory was refused it says
+-- nothing.
 abbrev pub Passes : {A E : Type 0} → (E → ℕ) → Result Passed ℕ → Result A E → Type 0
 Passes number checks result = Answers (λ _. passed) number checks result
 

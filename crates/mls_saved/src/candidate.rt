@@ -11,7 +11,7 @@ use std::alloc::Global;
 const CANDIDATE_MARK: u16 = 2;
 
 /// A candidate: its KeyPackage and the private keys of it.
-#[derive(Debug, Clone, Drop)]
+#[derive(Drop)]
 pub struct SavedCandidate {
     /// What it offers (RFC 9420, 10).
     pub key_package: KeyPackage,

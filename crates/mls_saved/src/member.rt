@@ -22,7 +22,7 @@ pub enum Standing {
 }
 
 /// A commit that a member made and may yet follow (RFC 9420, 12.4.1).
-#[derive(Debug, Clone, Drop)]
+#[derive(Drop)]
 pub struct SavedPending {
     /// Its message.
     pub message: Bytes,
@@ -31,7 +31,7 @@ pub struct SavedPending {
 }
 
 /// A member: all that it needs to go on.
-#[derive(Debug, Clone, Drop)]
+#[derive(Drop)]
 pub struct SavedMember {
     /// Whether it was removed.
     pub standing: Standing,

@@ -8,7 +8,7 @@ use mls_wire::{Reader, Writer};
 use std::alloc::Global;
 
 /// A proposal that a member keeps for a commit of its epoch (RFC 9420, 12.1).
-#[derive(Debug, Clone, Drop)]
+#[derive(Drop)]
 pub struct SavedProposal {
     /// Its reference.
     pub reference: Bytes,

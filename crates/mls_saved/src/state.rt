@@ -9,7 +9,7 @@ use mls_wire::{Reader, Writer};
 use std::alloc::Global;
 
 /// What a member knows of an epoch: the public state of its group, and its secrets.
-#[derive(Debug, Clone, Drop)]
+#[derive(Drop)]
 pub struct SavedState {
     /// The group context (RFC 9420, 8.1).
     pub context: GroupContext,
@@ -23,7 +23,7 @@ pub struct SavedState {
     pub leaf: u32,
     /// The private key of its leaf.
     pub own: Bytes,
-    /// The private keys of the nodes over its leaf, the highest first.
+    /// The private keys of the nodes over its leaf, the lowest first.
     pub above: Items<Option<Bytes>>,
 }
 

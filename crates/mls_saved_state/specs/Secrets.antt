@@ -16,7 +16,7 @@ abbrev pub is_none_or_secret : Option (List ℕ) → Bool
 is_none_or_secret None = true
 is_none_or_secret (Some bytes) = is_secret bytes
 
--- a secret: 101 unless it has 32 bytes
+-- a secret: `BadSecret` (101) unless it has 32 bytes
 abbrev pub secret_in : List ℕ → Result (List ℕ) ℕ
 secret_in bytes = require 101 (is_secret bytes) >> Ok bytes
 
@@ -24,11 +24,11 @@ secret_in bytes = require 101 (is_secret bytes) >> Ok bytes
 abbrev pub optional_secret_in : Option (List ℕ) → Result (Option (List ℕ)) ℕ
 optional_secret_in bytes = require 101 (is_none_or_secret bytes) >> Ok bytes
 
--- keys: 101 where one hasn't 32 bytes
+-- keys: `BadSecret` (101) where one hasn't 32 bytes
 abbrev pub each_secret_in : List (Option (List ℕ)) → Result (List (Option (List ℕ))) ℕ
 each_secret_in keys = require 101 (list_all is_none_or_secret keys) >> Ok keys
 
--- the keys above a leaf: 101 where there are too many, or one hasn't 32 bytes
+-- the keys above a leaf: `BadSecret` (101) where there are too many, or one hasn't 32 bytes
 unfoldable pub keys_in : List (Option (List ℕ)) → Result (List (Option (List ℕ))) ℕ
 keys_in keys = require 101 (nat_le (length keys) max_keys) >> each_secret_in keys
 

@@ -14,9 +14,8 @@ use Rattle.mls_tree_model.specs.Good.{IsGood, tree_checks}
 use Rattle.mls_tree_model.specs.Hashes.{tree_hash}
 use Rattle.mls_tree.specs.Rules.{rules_of}
 use Rattle.mls_tree.specs.Tree.{max_leaves}
-use Rattle.mls_treekem_model.specs.Keys.{PrivateKeys}
+use Rattle.mls_treekem_model.specs.Keys.{PrivateKeys, HasExact}
 use Rattle.mls_treekem_model.specs.Holding.{holds_exact}
-use Rattle.mls_treekem_model.specs.Members.{HasExact}
 use Rattle.mls_model.specs.PublicState.{PublicState}
 use Rattle.mls_saved_state.specs.Secrets.{secret_in, keys_in, is_secret, AreKeys}
 use Rattle.mls_saved_state.specs.declared.load.EpochState.{EpochState}
@@ -45,8 +44,8 @@ pub record HasSecrets (s : SavedState) : Type 0 where
 
 -- ---- loading
 
--- the tree: 20 and 21 its shape and size, 103 its hash isn't the context's, then the checks of a whole tree (RFC 9420,
--- 12.4.3.1 and 12.4.3.3)
+-- the tree: `TreeShape` (20) and `TreeFull` (21) its shape and size, `BadTreeHash` (103) its hash isn't the context's,
+-- then the checks of a whole tree (RFC 9420, 12.4.3.1 and 12.4.3.3)
 unfoldable pub saved_tree : Crypto → GroupContext → List (Option Node) → Result Term ℕ
 saved_tree c context nodes = do
   t ← from_nodes max_leaves nodes
@@ -54,14 +53,15 @@ saved_tree c context nodes = do
   tree_checks (rules_of c context.group_id) t
   Ok t
 
--- the leaf with its private keys: 101 one isn't a secret
+-- the leaf with its private keys: `BadSecret` (101) one isn't a secret
 unfoldable pub saved_keys : SavedState → Result PrivateKeys ℕ
 saved_keys s = do
   own ← secret_in s.own
   above ← keys_in s.above
   Ok (record { leaf = s.leaf; own = own; above = reverse above })
 
--- 102 no member is at the leaf, 104 it hasn't exactly the private keys that are due (RFC 9420, 7.1 and 7.5)
+-- `NotAMember` (102) no member is at the leaf, `OtherKey` (104) it hasn't exactly the private keys that are due
+-- (RFC 9420, 7.1 and 7.5)
 unfoldable pub key_checks : Crypto → Term → PrivateKeys → Result Passed ℕ
 key_checks c t keys = do
   require 102 (is_some (leaf_of t keys.leaf))
@@ -72,7 +72,8 @@ abbrev pub state_with : GroupContext → Term → List ℕ → List ℕ → Priv
 state_with context t interim epoch keys =
     record { group = record { context = context; tree = t; interim = interim }; epoch = epoch; keys = keys }
 
--- what was saved of an epoch: 100 another suite, 101 the secrets, then the tree and the keys
+-- what was saved of an epoch: `OtherSuite` (100) another suite, `BadSecret` (101) the secrets, then the tree and the
+-- keys
 unfoldable pub load_state : Crypto → SavedState → Result EpochState ℕ
 load_state c s = do
   require 100 (s.context.cipher_suite == c.number)

@@ -2,7 +2,7 @@
 use Rattle.std.specs.Prelude.{◌≡◌, ℕ, List, length}
 use Rattle.mls_kdf.specs.Lengths.{length-sha256, length-hmac}
 use Rattle.mls_kdf.proofs.Lengths.{length-expand_with_label, length-derive_secret}
-use Rattle.mls_schedule.specs.Epoch.{joiner_secret, welcome_secret, epoch_secret, next_welcome, next_epoch_secret, welcome_key, welcome_nonce, sender_data_secret, encryption_secret, exporter_secret, external_secret, confirmation_key, membership_key, resumption_psk, epoch_authenticator, init_secret, confirmation_tag, membership_tag, exported}
+use Rattle.mls_schedule.specs.Epoch.{joiner_secret, welcome_secret, epoch_secret, next_epoch_secret, welcome_key, welcome_nonce, sender_data_secret, encryption_secret, exporter_secret, external_secret, confirmation_key, membership_key, resumption_psk, epoch_authenticator, init_secret, confirmation_tag, membership_tag, export_secret}
 use Rattle.mls_schedule.specs.Transcript.{confirmed_hash, interim_hash}
 
 pub length-joiner_secret : (init commit_secret context : List ℕ) → length (joiner_secret init commit_secret context) ≡ 32
@@ -16,10 +16,6 @@ length-welcome_secret joiner = length-derive_secret _ _
 pub length-epoch_secret : (joiner context : List ℕ) → length (epoch_secret joiner context) ≡ 32
 unfolding epoch_secret
 length-epoch_secret joiner context = length-expand_with_label _ _ context 32
-
-pub length-next_welcome : (init commit_secret context : List ℕ) → length (next_welcome init commit_secret context) ≡ 32
-unfolding next_welcome
-length-next_welcome init commit_secret context = length-welcome_secret _
 
 pub length-next_epoch_secret : (init commit_secret context : List ℕ) → length (next_epoch_secret init commit_secret context) ≡ 32
 unfolding next_epoch_secret
@@ -77,8 +73,8 @@ pub length-membership_tag : (epoch said : List ℕ) → length (membership_tag e
 unfolding membership_tag
 length-membership_tag epoch said = length-hmac _ said
 
-pub length-exported : (epoch label context : List ℕ) (n : ℕ) → length (exported epoch label context n) ≡ n
-unfolding exported
+pub length-exported : (epoch label context : List ℕ) (n : ℕ) → length (export_secret epoch label context n) ≡ n
+unfolding export_secret
 length-exported epoch label context n = length-expand_with_label _ _ _ n
 
 pub length-confirmed_hash : (interim : List ℕ) (wire_format : ℕ) (content signature : List ℕ) → length (confirmed_hash interim wire_format content signature) ≡ 32

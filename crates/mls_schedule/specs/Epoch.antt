@@ -1,6 +1,6 @@
 -- The key schedule (RFC 9420, 8) as functions on lists of bytes. A context is the bytes of a GroupContext, and `epoch`
 -- stands for an epoch secret.
-use Rattle.std.specs.Prelude.{ℕ, List, [], replicate, codes}
+use Rattle.std.specs.Prelude.{ℕ, List, [], ◌∷◌, replicate, codes}
 use Rattle.sha2.specs.Sha256.{sha256}
 use Rattle.mls_kdf.specs.Kdf.{hmac, extract, expand_with_label, derive_secret}
 
@@ -21,10 +21,6 @@ welcome_secret joiner = derive_secret (intermediate_secret joiner) (codes "welco
 -- epoch_secret: from the joiner secret and the new context (RFC 9420, 8)
 unfoldable pub epoch_secret : List ℕ → List ℕ → List ℕ
 epoch_secret joiner context = expand_with_label (intermediate_secret joiner) (codes "epoch") context 32
-
--- the welcome secret of the next epoch, from init secret, commit secret and new context (RFC 9420, 8)
-unfoldable pub next_welcome : List ℕ → List ℕ → List ℕ → List ℕ
-next_welcome init commit_secret context = welcome_secret (joiner_secret init commit_secret context)
 
 -- the epoch secret of the next epoch, from init secret, commit secret and new context (RFC 9420, 8)
 unfoldable pub next_epoch_secret : List ℕ → List ℕ → List ℕ → List ℕ
@@ -104,6 +100,21 @@ nine_secrets epoch = record {
   init = init_secret epoch;
 }
 
+-- the ten secrets of an epoch, in the order in which the standard lists them: its own and the nine (RFC 9420, 8)
+unfoldable pub ten_secrets : List ℕ → List (List ℕ)
+ten_secrets epoch =
+    epoch
+    ∷ sender_data_secret epoch
+    ∷ encryption_secret epoch
+    ∷ exporter_secret epoch
+    ∷ external_secret epoch
+    ∷ confirmation_key epoch
+    ∷ membership_key epoch
+    ∷ resumption_psk epoch
+    ∷ epoch_authenticator epoch
+    ∷ init_secret epoch
+    ∷ []
+
 -- ---- what is made of them
 
 -- confirmation_tag: by the epoch secret, over a confirmed transcript hash (RFC 9420, 6.1)
@@ -115,5 +126,5 @@ unfoldable pub membership_tag : List ℕ → List ℕ → List ℕ
 membership_tag epoch said = hmac (membership_key epoch) said
 
 -- an exported secret of n bytes, under a label and a context (RFC 9420, 8.5)
-unfoldable pub exported : List ℕ → List ℕ → List ℕ → ℕ → List ℕ
-exported epoch label context n = expand_with_label (derive_secret (exporter_secret epoch) label) (codes "exported") (sha256 context) n
+unfoldable pub export_secret : List ℕ → List ℕ → List ℕ → ℕ → List ℕ
+export_secret epoch label context n = expand_with_label (derive_secret (exporter_secret epoch) label) (codes "exported") (sha256 context) n

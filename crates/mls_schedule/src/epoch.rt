@@ -5,23 +5,22 @@ ghost use Rattle.std.specs.Prelude.{◌≡◌, ◌<◌, ◌≤◌, ◌^◌, ◌�
 ghost use Rattle.mls_kdf.specs.Kdf.{joined_pieces, expand_with_label, max_output};
 ghost use Rattle.mls_kdf.specs.Outputs.{Fills};
 ghost use Rattle.mls_schedule.specs.Faults.{IsTooLong};
-ghost use Rattle.mls_schedule.specs.Epoch.{joiner_secret, welcome_secret, next_welcome, welcome_key, welcome_nonce, intermediate_secret, epoch_secret, next_epoch_secret, nine_secrets, confirmation_tag, membership_tag, exported};
+ghost use Rattle.mls_schedule.specs.Epoch.{joiner_secret, welcome_secret, welcome_key, welcome_nonce, intermediate_secret, epoch_secret, next_epoch_secret, nine_secrets, ten_secrets, confirmation_tag, membership_tag, export_secret};
 
 use crate::ScheduleError;
 use mls_kdf::{HmacKey, Secret, Seed, derive_secret, expand_with_label, extract, hash, hmac};
 use std::marker::Model;
 
-/// The secrets of one epoch: the epoch secret, and the nine that are made of it.
+/// The secrets of one epoch: the epoch secret, and the nine that are made of it. The external secret and that for
+/// resumption, which no call of a member needs, are made where they are asked for.
 #[derive(Drop)]
 pub struct Epoch {
     epoch: Secret,
     sender_data: Secret,
     encryption: Secret,
     exporter: Secret,
-    external: Secret,
     confirmation: Secret,
     membership: Secret,
-    resumption: Secret,
     authenticator: Secret,
     init: Secret,
 }
@@ -39,13 +38,11 @@ impl Model for Epoch {
     ghost invariant = { IsOfEpoch };
 }
 
-/// An epoch with the secrets that lead to it.
+/// An epoch with the secret that leads to it.
 #[derive(Drop)]
 pub struct Start {
     /// What a new member is given, to reach the epoch.
     pub joiner: Secret,
-    /// What the key and the nonce of a Welcome's GroupInfo are made of.
-    pub welcome: Secret,
     /// The epoch.
     pub epoch: Epoch,
 }
@@ -80,7 +77,7 @@ fn intermediate_secret(joiner: &Secret) -> Secret
 
 impl Epoch {
     /// The epoch with this epoch secret, as epoch 0 is made of its creator's seed.
-    #[tactic(auto, unfolding(crate::specs::Epoch::sender_data_secret, crate::specs::Epoch::encryption_secret, crate::specs::Epoch::exporter_secret, crate::specs::Epoch::external_secret, crate::specs::Epoch::confirmation_key, crate::specs::Epoch::membership_key, crate::specs::Epoch::resumption_psk, crate::specs::Epoch::epoch_authenticator, crate::specs::Epoch::init_secret))]
+    #[tactic(auto, unfolding(crate::specs::Epoch::sender_data_secret, crate::specs::Epoch::encryption_secret, crate::specs::Epoch::exporter_secret, crate::specs::Epoch::confirmation_key, crate::specs::Epoch::membership_key, crate::specs::Epoch::epoch_authenticator, crate::specs::Epoch::init_secret))]
     pub fn first(seed: &Seed) -> Epoch
         ensures { result ≡ seed.now }
     {
@@ -90,10 +87,8 @@ impl Epoch {
             sender_data: key.derive_secret("sender data"),
             encryption: key.derive_secret("encryption"),
             exporter: key.derive_secret("exporter"),
-            external: key.derive_secret("external"),
             confirmation: key.derive_secret("confirm"),
             membership: key.derive_secret("membership"),
-            resumption: key.derive_secret("resumption"),
             authenticator: key.derive_secret("authentication"),
             init: key.derive_secret("init"),
         }
@@ -101,11 +96,10 @@ impl Epoch {
 
     /// The epoch after one with this init secret, by a commit with this commit secret. The context is
     /// the new epoch's.
-    #[tactic(auto, unfolding(crate::specs::Epoch::joiner_secret, crate::specs::Epoch::next_welcome, crate::specs::Epoch::next_epoch_secret))]
+    #[tactic(auto, unfolding(crate::specs::Epoch::joiner_secret, crate::specs::Epoch::next_epoch_secret))]
     pub fn next(init: &Secret, commit_secret: &Secret, context: &[u8]) -> Start
         requires { length context.now < 2 ^ 30 }
         ensures joiner { result.joiner ≡ joiner_secret init.now commit_secret.now context.now }
-        ensures welcome { result.welcome ≡ next_welcome init.now commit_secret.now context.now }
         ensures epoch { result.epoch ≡ next_epoch_secret init.now commit_secret.now context.now }
     {
         let joiner = expand_secret(&extract(init, commit_secret), "joiner", context);
@@ -113,34 +107,40 @@ impl Epoch {
     }
 
     /// The epoch that a new member reaches from the joiner secret. The context is that epoch's.
-    #[tactic(auto, unfolding(crate::specs::Epoch::welcome_secret, crate::specs::Epoch::epoch_secret))]
+    #[tactic(auto, unfolding(crate::specs::Epoch::epoch_secret))]
     pub fn from_joiner(joiner: &Secret, context: &[u8]) -> Start
         requires { length context.now < 2 ^ 30 }
         ensures joiner { result.joiner ≡ joiner.now }
-        ensures welcome { result.welcome ≡ welcome_secret joiner.now }
         ensures epoch { result.epoch ≡ epoch_secret joiner.now context.now }
     {
-        let intermediate = intermediate_secret(joiner);
-        let welcome = derive_secret(&intermediate, "welcome");
-        let epoch = expand_secret(&intermediate, "epoch", context);
+        let epoch = expand_secret(&intermediate_secret(joiner), "epoch", context);
         Start {
             joiner: *joiner,
-            welcome,
             epoch: Epoch::first(&epoch),
         }
     }
 
+    /// What the key and the nonce of a Welcome's GroupInfo are made of, from the joiner secret (RFC 9420, 8). Who makes
+    /// or opens no Welcome doesn't need it.
+    #[tactic(auto, unfolding(crate::specs::Epoch::welcome_secret))]
+    pub fn welcome_secret(joiner: &Secret) -> Secret
+        ensures { result ≡ welcome_secret joiner.now }
+    {
+        derive_secret(&intermediate_secret(joiner), "welcome")
+    }
+
     /// The key and the nonce of a Welcome's GroupInfo, from the joiner secret.
-    #[tactic(auto, unfolding(crate::specs::Epoch::welcome_secret, crate::specs::Epoch::welcome_key, crate::specs::Epoch::welcome_nonce))]
+    #[tactic(auto, unfolding(crate::specs::Epoch::welcome_key, crate::specs::Epoch::welcome_nonce))]
     pub fn welcome_key(joiner: &Secret) -> WelcomeKey
         ensures key { result.key ≡ welcome_key joiner.now }
         ensures nonce { result.nonce ≡ welcome_nonce joiner.now }
     {
-        let welcome = derive_secret(&intermediate_secret(joiner), "welcome");
+        let secret = Epoch::welcome_secret(joiner);
+        let welcome = HmacKey::new(&secret);
         let mut key = [0; 16];
-        expand_with_label(&welcome, "key", &[], &mut key).unwrap();
+        welcome.expand_with_label("key", &[], &mut key).unwrap();
         let mut nonce = [0; 12];
-        expand_with_label(&welcome, "nonce", &[], &mut nonce).unwrap();
+        welcome.expand_with_label("nonce", &[], &mut nonce).unwrap();
         WelcomeKey { key, nonce }
     }
 
@@ -172,11 +172,12 @@ impl Epoch {
         &self.exporter
     }
 
-    /// The secret of external commits.
-    pub fn external_secret(&self) -> &Secret
-        ensures { result.now ≡ (nine_secrets self.now).external }
+    /// The secret of external commits. It is made by each call.
+    #[tactic(auto, unfolding(crate::specs::Epoch::external_secret))]
+    pub fn external_secret(&self) -> Secret
+        ensures { result ≡ (nine_secrets self.now).external }
     {
-        &self.external
+        derive_secret(&self.epoch, "external")
     }
 
     /// The key of confirmation tags.
@@ -193,11 +194,12 @@ impl Epoch {
         &self.membership
     }
 
-    /// The secret for resumption.
-    pub fn resumption_psk(&self) -> &Secret
-        ensures { result.now ≡ (nine_secrets self.now).resumption }
+    /// The secret for resumption. It is made by each call.
+    #[tactic(auto, unfolding(crate::specs::Epoch::resumption_psk))]
+    pub fn resumption_psk(&self) -> Secret
+        ensures { result ≡ (nine_secrets self.now).resumption }
     {
-        &self.resumption
+        derive_secret(&self.epoch, "resumption")
     }
 
     /// What members compare to see that they agree.
@@ -212,6 +214,25 @@ impl Epoch {
         ensures { result.now ≡ (nine_secrets self.now).init }
     {
         &self.init
+    }
+
+    /// The ten secrets, in the order in which RFC 9420, 8 lists them: the epoch secret and the nine that are made of it.
+    #[tactic(auto, unfolding(crate::specs::Epoch::ten_secrets))]
+    pub fn secrets(&self) -> [Secret; 10]
+        ensures { result ≡ ten_secrets self.now }
+    {
+        [
+            self.epoch,
+            self.sender_data,
+            self.encryption,
+            self.exporter,
+            self.external_secret(),
+            self.confirmation,
+            self.membership,
+            self.resumption_psk(),
+            self.authenticator,
+            self.init,
+        ]
     }
 
     /// The tag, of 32 bytes, that confirms a transcript by its confirmed hash (RFC 9420, 6.1).
@@ -233,11 +254,11 @@ impl Epoch {
 
     /// Fills `out` with a secret exported under a label of at most 200 bytes and a context (RFC 9420,
     /// 8.5). More than 8,160 bytes are refused with `OutputTooLong`, and `out` is as it was.
-    #[tactic(auto, unfolding(crate::specs::Epoch::exported))]
+    #[tactic(auto, unfolding(crate::specs::Epoch::export_secret))]
     pub fn export(&self, label: &str, context: &[u8], out: &mut [u8]) -> Result<(), ScheduleError>
         requires { length label.now ≤ 200 }
         ensures too_long { IsTooLong result ↔ (max_output < length out.old) }
-        ensures ok { Fills (exported self.now label.now context.now) out.old result out.new }
+        ensures ok { Fills (export_secret self.now label.now context.now) out.old result out.new }
         ensures err { OnErr result (out.new ≡ out.old) }
     {
         let secret = derive_secret(&self.exporter, label);

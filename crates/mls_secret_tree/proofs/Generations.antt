@@ -1,5 +1,5 @@
 -- No leaf's next generation ever falls.
-use Rattle.std.proofs.Common.{◌≡◌, ℕ, zero, suc, max, ◌^◌, ◌<◌, ◌≤◌, Bool, true, false, not, inl, inr, List, [], ◌∷◌, length, Result, Ok, Err, refl, sym, ap, ◌∙◌, subst, arith}
+use Rattle.std.proofs.Common.{◌≡◌, ℕ, zero, suc, max, ◌^◌, ◌<◌, ◌≤◌, Bool, true, false, not, inl, inr, List, [], ◌∷◌, length, Ok, refl, sym, ap, ◌∙◌, subst, arith}
 use Rattle.std.proofs.lemmas.Bool.{cases_eq}
 use Rattle.std.proofs.lemmas.List.{nil_from_length}
 use Rattle.mls_wire.specs.Laws.{bind_ok}
@@ -14,8 +14,8 @@ use Rattle.mls_secret_tree.specs.Holding.{IsHeldOf, IsTreeOf}
 use Rattle.mls_secret_tree.specs.Laws.{use_key, use_keys}
 use Rattle.mls_secret_tree.specs.Generations.{next_of, MovesOn}
 use Rattle.mls_secret_tree.proofs.RatchetLaws.{TookKept, TookAhead, took}
-use Rattle.mls_secret_tree.proofs.HeldLaws.{FromRatchet, from_ratchet, FromWhole, from_whole, first_next}
-use Rattle.mls_secret_tree.proofs.TreeLaws.{ways_differ, same_value, IsDrafted, is_drafted, keys_are_derived, same_height}
+use Rattle.mls_secret_tree.proofs.HeldLaws.{from_ratchet, from_whole, first_next}
+use Rattle.mls_secret_tree.proofs.TreeLaws.{ways_differ, same_value, is_drafted, keys_are_derived, same_height}
 
 -- ---- one ratchet
 

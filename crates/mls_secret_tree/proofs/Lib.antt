@@ -1,4 +1,5 @@
 pub mod Nodes
+pub mod Refusals
 pub mod Passing
 pub mod KeptKeys
 pub mod RatchetLaws

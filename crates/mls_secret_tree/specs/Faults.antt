@@ -1,5 +1,5 @@
 -- The numbers and names of what a secret tree refuses, and what calls promise by these numbers.
-use Rattle.std.specs.Prelude.{ℕ, List, Result, codes}
+use Rattle.std.specs.Prelude.{◌≡◌, ℕ, List, Result, Err, IsErrAnd, codes}
 use Rattle.mls_wire.specs.Checks.{Answers}
 use Rattle.mls_secret_tree.specs.declared.error.SecretTreeError.{SecretTreeError}
 use Rattle.mls_secret_tree.specs.declared.error.SecretTreeError.TheVariants.{OutOfMemory, SenderWithoutLeaf, GenerationTooFar, KeyUsed}
@@ -21,3 +21,7 @@ name_of KeyUsed = codes "KeyUsed"
 -- A call answers what the definition does, or refuses with its number. Where memory was refused it says nothing.
 abbrev pub Gives : {A : Type 0} → Result A ℕ → Result A SecretTreeError → Type 0
 Gives defined result = Answers (λ x. x) number_of defined result
+
+-- What the definition refuses, the call refuses with that number, whatever memory there is.
+abbrev pub RefusesOutright : {A B : Type 0} → Result A ℕ → Result B SecretTreeError → Type 0
+RefusesOutright defined result = (n : ℕ) → defined ≡ Err n → IsErrAnd result (λ e. number_of e ≡ n)

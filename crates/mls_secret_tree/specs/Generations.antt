@@ -10,12 +10,13 @@ use Rattle.mls_secret_tree.specs.Laws.{use_keys}
 abbrev pub next_of : Tree → ℕ → ℕ
 next_of t leaf = next_below t.root (leaf_path t.height leaf)
 
--- the next generation of each leaf, after a key was used: that of the key's leaf lies behind the key, and each other one
--- is as before
+-- the next generation of each leaf, after a key was used: that of the key's leaf lies behind the key, and each other
+-- one is as before
 pub record MovesOn (t : Tree) (leaf generation : ℕ) (u : Tree) : Type 0 where
   pub own : next_of u leaf ≡ max (next_of t leaf) (suc generation)
   pub others : (other : ℕ) → other < 2 ^ t.height → other ≢ leaf → next_of u other ≡ next_of t other
 
+-- each use of a key moves on so
 abbrev pub UseMovesOn : Type 0
 UseMovesOn = (encryption_secret : List ℕ) (t : Tree) (leaf generation : ℕ) (d : Drafted)
     → IsTreeOf encryption_secret t

@@ -15,8 +15,8 @@ use Rattle.mls_secret_tree.specs.SecretTree.{Tree}
 unfoldable pub ratchet_holds : Ratcheting → ℕ → Bool
 ratchet_holds r generation = not (nat_lt generation r.next) || is_some (find_key generation r.kept)
 
--- whether anything that the key of a generation is derived from is held along a way to its leaf: the secret of a node on
--- the way, or what the leaf's ratchet holds
+-- whether anything that the key of a generation is derived from is held along a way to its leaf: the secret of a node
+-- on the way, or what the leaf's ratchet holds
 unfoldable pub holds_below : Held → Path → ℕ → Bool
 holds_below (Whole secret) way generation = true
 holds_below (LeafRatchet r) way generation = ratchet_holds r generation

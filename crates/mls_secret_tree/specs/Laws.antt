@@ -15,6 +15,7 @@ pub record IsFresh (encryption_secret : List ℕ) (t : Tree) : Type 0 where
   pub is : IsTreeOf encryption_secret t
   pub all : (leaf generation : ℕ) → leaf < 2 ^ t.height → holds t leaf generation ≡ true
 
+-- the first tree of an encryption secret is so
 abbrev pub FirstIsFresh : Type 0
 FirstIsFresh = (encryption_secret : List ℕ) (height : ℕ)
     → IsFresh encryption_secret (first_tree encryption_secret height)
@@ -27,6 +28,7 @@ pub record IsDraftOf (encryption_secret : List ℕ) (t : Tree) (leaf generation 
   pub key : d.key ≡ application_key encryption_secret t.height leaf generation
   pub behind : IsTreeOf encryption_secret (keep_draft t d)
 
+-- each draft of a tree of an encryption secret is so
 abbrev pub KeysAreDerived : Type 0
 KeysAreDerived = (encryption_secret : List ℕ) (t : Tree) (leaf generation : ℕ) (d : Drafted)
     → IsTreeOf encryption_secret t
@@ -45,6 +47,7 @@ pub record IsAnswered (t : Tree) (leaf generation : ℕ) : Type 0 where
       → holds t leaf generation ≡ true
       → (d : Drafted) × (draft_key t leaf generation ≡ Ok d)
 
+-- each leaf and each generation is answered so
 abbrev pub EachIsAnswered : Type 0
 EachIsAnswered = (encryption_secret : List ℕ) (t : Tree) (leaf generation : ℕ)
     → IsTreeOf encryption_secret t → IsAnswered t leaf generation
@@ -59,6 +62,7 @@ pub record LosesOne (t : Tree) (leaf generation : ℕ) (u : Tree) : Type 0 where
   pub near : (k : ℕ) → k ≢ generation → generation ≤ k + window → holds u leaf k ≡ holds t leaf k
   pub no_more : (other k : ℕ) → holds u other k ≡ true → holds t other k ≡ true
 
+-- a key that is used is gone, with what it is derived from
 abbrev pub UsedIsGone : Type 0
 UsedIsGone = (encryption_secret : List ℕ) (t : Tree) (leaf generation : ℕ) (d : Drafted)
     → IsTreeOf encryption_secret t
@@ -89,6 +93,7 @@ pub record IsSpent (t : Tree) (leaf generation : ℕ) : Type 0 where
   pub refused : draft_key t leaf generation ≡ Err 116
   pub gone : holds t leaf generation ≡ false
 
+-- a key is used once, whichever were used before it
 abbrev pub NeverTwice : Type 0
 NeverTwice =
     (encryption_secret : List ℕ) (height : ℕ) (before after : List (ℕ × ℕ)) (leaf generation : ℕ)

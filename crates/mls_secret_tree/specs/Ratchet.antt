@@ -86,8 +86,8 @@ take_ahead r generation =
     take_new (passed_secret r.secret r.next (generation - r.next)) generation
     (near_keys generation r.kept ++ passed_keys r.secret r.next (generation - r.next))
 
--- the key of a generation, and the ratchet after it was used: `GenerationTooFar` (115) beyond the window, `KeyUsed` (116)
--- where the key was used or is gone
+-- the key of a generation, and the ratchet after it was used: `GenerationTooFar` (115) beyond the window, `KeyUsed`
+-- (116) where the key was used or is gone
 unfoldable pub take_key : Ratcheting → ℕ → Result (MessageKey × Ratcheting) ℕ
 take_key r generation =
     if nat_lt generation r.next then take_kept r generation (find_key generation r.kept)

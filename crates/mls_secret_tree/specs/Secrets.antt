@@ -1,4 +1,5 @@
--- The secrets of the secret tree (RFC 9420, 9) and the keys that its ratchets give (9.1), as functions on lists of bytes.
+-- The secrets of the secret tree (RFC 9420, 9) and the keys that its ratchets give (9.1), as functions on lists of
+-- bytes.
 use Rattle.std.specs.Prelude.{ℕ, zero, suc, Bool, if◌then◌else◌, List, [], ◌∷◌, codes}
 use Rattle.std.specs.Int.{w32, to_be_bytes}
 use Rattle.mls_kdf.specs.Kdf.{expand_with_label}
@@ -28,7 +29,8 @@ unfoldable pub derive_tree_secret : List ℕ → List ℕ → ℕ → ℕ → Li
 derive_tree_secret secret label generation length =
     expand_with_label secret label (to_be_bytes w32 generation) length
 
--- ratchet_key and ratchet_nonce of a generation, from its ratchet_secret (RFC 9420, 9.1): AEAD.Nk is 16 bytes, AEAD.Nn 12
+-- ratchet_key and ratchet_nonce of a generation, from its ratchet_secret (RFC 9420, 9.1): AEAD.Nk is 16 bytes, AEAD.Nn
+-- 12
 unfoldable pub message_key : List ℕ → ℕ → MessageKey
 message_key secret generation = record {
   key = derive_tree_secret secret (codes "key") generation 16;

@@ -11,8 +11,6 @@ mod laws;
 mod node;
 mod ratchet;
 mod secrets;
-#[cfg(test)]
-mod tests;
 mod tree;
 
 pub use error::SecretTreeError;

@@ -3,7 +3,7 @@
 ghost use Rattle.std.specs.Prelude.{◌≡◌, ◌<◌, ◌≤◌, ◌==◌, IfOk};
 ghost use Rattle.std.specs.Int.{bit_at};
 ghost use Rattle.mls_treemath.specs.Paths.{leaf_path};
-ghost use Rattle.mls_secret_tree.specs.Faults.{Gives};
+ghost use Rattle.mls_secret_tree.specs.Faults.{Gives, RefusesOutright};
 ghost use Rattle.mls_secret_tree.specs.Held.{Whole, beside, take_from_ratchet, take_whole, take_below, put_below, next_below};
 
 use crate::SecretTreeError;
@@ -86,7 +86,9 @@ fn take_key(
     ratchet: &Ratchet,
     generation: u32,
 ) -> Result<(MessageKey, SecretNode), SecretTreeError>
-    ensures { Gives (take_from_ratchet ratchet.now generation) result }
+    ensures answer { Gives (take_from_ratchet ratchet.now generation) result }
+    // The ratchet's refusals come also when an allocation fails.
+    ensures refused { RefusesOutright (take_from_ratchet ratchet.now generation) result }
 {
     let (key, ratchet) = ratchet.take_key(alloc, generation)?;
     Ok((
@@ -106,7 +108,10 @@ fn take_whole(
     generation: u32,
 ) -> Result<(MessageKey, SecretNode), SecretTreeError>
     requires { level ≤ 32 }
-    ensures { Gives (take_whole secret.now (leaf_path level leaf) generation) result }
+    ensures answer { Gives (take_whole secret.now (leaf_path level leaf) generation) result }
+    // The ratchet's refusals come also when an allocation fails.
+    ensures refused { RefusesOutright (take_whole secret.now (leaf_path level leaf) generation)
+        result }
 {
     if level == 0 {
         return take_key(alloc, &Ratchet::first(alloc, secret), generation);
@@ -140,7 +145,10 @@ impl SecretNode {
         generation: u32,
     ) -> Result<(MessageKey, SecretNode), SecretTreeError>
         requires { level ≤ 32 }
-        ensures { Gives (take_below self.now (leaf_path level leaf) generation) result }
+        ensures answer { Gives (take_below self.now (leaf_path level leaf) generation) result }
+        // The three numbers come also when an allocation fails.
+        ensures refused { RefusesOutright (take_below self.now (leaf_path level leaf) generation)
+            result }
     {
         match &self.kind {
             Kind::Secret(secret) => take_whole(alloc, secret, leaf, level, generation),

@@ -2,7 +2,7 @@
 //! passed over.
 
 ghost use Rattle.std.specs.Prelude.{◌≡◌, ◌+◌, ◌-◌, ◌<◌, ◌≤◌, ◌^◌, IfOk, option_copied};
-ghost use Rattle.mls_secret_tree.specs.Faults.{Gives};
+ghost use Rattle.mls_secret_tree.specs.Faults.{Gives, RefusesOutright};
 ghost use Rattle.mls_secret_tree.specs.Ratchet.{window, first_ratchet, find_key, other_keys, near_keys, passed_secret, AddsKeys, take_new, take_ahead, take_key};
 
 use crate::SecretTreeError;
@@ -153,7 +153,9 @@ impl Ratchet {
         alloc: Global,
         generation: u32,
     ) -> Result<(MessageKey, Ratchet), SecretTreeError>
-        ensures { Gives (take_key self.now generation) result }
+        ensures answer { Gives (take_key self.now generation) result }
+        // Both numbers come also when an allocation fails.
+        ensures refused { RefusesOutright (take_key self.now generation) result }
     {
         if u64::from(generation) < self.next {
             let Some(key) = find_key(&self.kept, generation) else {

@@ -2,7 +2,7 @@
 
 ghost use Rattle.std.specs.Prelude.{◌≡◌};
 ghost use Rattle.mls_treemath.specs.Steps.{height_of};
-ghost use Rattle.mls_secret_tree.specs.Faults.{Gives};
+ghost use Rattle.mls_secret_tree.specs.Faults.{Gives, RefusesOutright};
 ghost use Rattle.mls_secret_tree.specs.SecretTree.{IsFirstTree, draft_key, keep_draft, next_generation};
 
 use crate::SecretTreeError;
@@ -117,7 +117,9 @@ impl SecretTree {
         leaf: u32,
         generation: u32,
     ) -> Result<Draft, SecretTreeError>
-        ensures { Gives (draft_key self.now leaf generation) result }
+        ensures answer { Gives (draft_key self.now leaf generation) result }
+        // The three numbers come also when an allocation fails.
+        ensures refused { RefusesOutright (draft_key self.now leaf generation) result }
     {
         if leaf >= 1 << self.height {
             return Err(SecretTreeError::SenderWithoutLeaf);

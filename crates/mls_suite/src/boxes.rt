@@ -1,6 +1,6 @@
 //! Boxes of the practice suite: a text combined with a stream made of a key, and its tag.
 
-ghost use Rattle.std.specs.Prelude.{◌≡◌, ◌+◌, ◌-◌, ◌*◌, ◌<◌, ◌≤◌, ◌^◌, ◌++◌, length, take, drop, IfOk};
+ghost use Rattle.std.specs.Prelude.{◌≡◌, ◌+◌, ◌-◌, ◌*◌, ◌<◌, ◌≤◌, ◌^◌, ◌++◌, length, take, drop, None, Ok, IfOk};
 ghost use Rattle.mls_suite.specs.Sealings.{OpensTo};
 ghost use Rattle.mls_suite.specs.Glass.{xor_with, stream_block, xor_with_stream, box_tag, make_box, open_box};
 
@@ -65,7 +65,8 @@ pub(crate) fn make_box(alloc: Global, key: &[u8], pt: &[u8]) -> Result<Vec<u8>, 
 
 #[tactic(auto, unfolding(crate::specs::Glass::open_box))]
 pub(crate) fn open_box(alloc: Global, key: &[u8], ct: &[u8]) -> Result<Option<Vec<u8>>, OutOfMemory>
-    ensures { OpensTo (open_box key.now ct.now) result }
+    ensures answer { OpensTo (open_box key.now ct.now) result }
+    ensures refused { open_box key.now ct.now ≡ None → result ≡ Ok None }
 {
     if ct.len() < 32 {
         return Ok(None);

@@ -14,9 +14,13 @@ use std::alloc::Global;
 // What stands before each label.
 const PREFIX: &[u8] = b"MLS 1.0 ";
 
-/// The label and the content, each behind its header, in one allocation: the headers have at most
-/// four bytes each.
-fn content_with_label(alloc: Global, label: &str, content: &[u8]) -> Result<Vec<u8>, OutOfMemory>
+/// What is signed, or the info of what is sealed, under a label (RFC 9420, 5.1.2 and 5.1.3): the label and the content,
+/// each behind its header, in one allocation. The headers have at most four bytes each.
+pub fn content_with_label(
+    alloc: Global,
+    label: &str,
+    content: &[u8],
+) -> Result<Vec<u8>, OutOfMemory>
     requires label { length label.now ≤ 200 }
     requires content { length content.now < 2 ^ 30 }
     ensures { IfOk result (λ v. v.items ≡ content_with_label label.now content.now) }

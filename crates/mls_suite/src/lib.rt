@@ -2,7 +2,7 @@
 //! 5.1.3), and the practice suite.
 #![tactic(auto)]
 
-ghost use Rattle.std.specs.Prelude.{◌≡◌, ℕ, IfOk};
+ghost use Rattle.std.specs.Prelude.{◌≡◌, ℕ, None, Ok, IfOk};
 ghost use Rattle.mls_suite.specs.Crypto.{Crypto, Lawful};
 ghost use Rattle.mls_suite.specs.Sealings.{OpensTo, SealsTo};
 
@@ -13,8 +13,8 @@ mod labels;
 mod practice;
 
 pub use labels::{
-    decrypt_with_label, encrypt_with_label, opened_as_sealed, sealed_where_fit, sign_with_label,
-    signature_is_short, verified_as_signed, verify_with_label,
+    content_with_label, decrypt_with_label, encrypt_with_label, opened_as_sealed, sealed_where_fit,
+    sign_with_label, signature_is_short, verified_as_signed, verify_with_label,
 };
 pub use practice::Glass;
 
@@ -38,7 +38,8 @@ pub struct Sealed {
 /// Is the cryptography of a group (RFC 9420, 5.1). Memory aside, each answer is the function of `crypto`
 /// of the same name, and these functions keep the laws `Lawful`: what is sealed to a private key's
 /// public key is opened by it, what is signed verifies, what is sealed under a key is opened under it,
-/// public keys are fit, a key takes a seal exactly where it is fit, and keys and signatures are short.
+/// public keys are fit, a key takes a seal exactly where it is fit, the suite's number has 16 bits, and
+/// keys and signatures are short.
 pub trait Suite {
     /// Is the number of the cipher suite (RFC 9420, 17.1).
     const NUMBER: u16;
@@ -61,7 +62,8 @@ pub trait Suite {
         ensures private { IfOk result (λ p. p.sk ≡ crypto.derive ikm.now) }
         ensures public { IfOk result (λ p. p.pk.items ≡ crypto.public (crypto.derive ikm.now)) };
 
-    /// Seals `pt` to a public key with 32 random bytes; None where the key is not fit (RFC 9180, 6.1).
+    /// Seals `pt` to a public key with 32 random bytes; None where the key is not fit, also when an
+    /// allocation fails (RFC 9180, 6.1).
     fn seal(
         alloc: Global,
         pk: &[u8],
@@ -69,9 +71,11 @@ pub trait Suite {
         pt: &[u8],
         rnd: &[u8; 32],
     ) -> Result<Option<Sealed>, OutOfMemory>
-        ensures { SealsTo (crypto.seal pk.now info.now pt.now rnd.now) result };
+        ensures answer { SealsTo (crypto.seal pk.now info.now pt.now rnd.now) result }
+        ensures refused { crypto.seal pk.now info.now pt.now rnd.now ≡ None → result ≡ Ok None };
 
-    /// Opens what was sealed; None where it does not open (RFC 9180, 6.1).
+    /// Opens what was sealed; None where it does not open, also when an allocation fails (RFC 9180,
+    /// 6.1).
     fn unseal(
         alloc: Global,
         sk: &[u8; 32],
@@ -79,7 +83,8 @@ pub trait Suite {
         info: &[u8],
         ct: &[u8],
     ) -> Result<Option<Vec<u8>>, OutOfMemory>
-        ensures { OpensTo (crypto.unseal sk.now kem.now info.now ct.now) result };
+        ensures answer { OpensTo (crypto.unseal sk.now kem.now info.now ct.now) result }
+        ensures refused { crypto.unseal sk.now kem.now info.now ct.now ≡ None → result ≡ Ok None };
 
     /// Gives the public key of a signature key.
     fn sig_public(alloc: Global, sk: &[u8; 32]) -> Result<Vec<u8>, OutOfMemory>
@@ -103,7 +108,8 @@ pub trait Suite {
     ) -> Result<Vec<u8>, OutOfMemory>
         ensures { IfOk result (λ v. v.items ≡ crypto.aead_seal key.now nonce.now aad.now pt.now) };
 
-    /// Opens what was sealed under a key and a nonce; None where it does not open.
+    /// Opens what was sealed under a key and a nonce; None where it does not open, also when an
+    /// allocation fails.
     fn aead_open(
         alloc: Global,
         key: &[u8; 16],
@@ -111,7 +117,9 @@ pub trait Suite {
         aad: &[u8],
         ct: &[u8],
     ) -> Result<Option<Vec<u8>>, OutOfMemory>
-        ensures { OpensTo (crypto.aead_open key.now nonce.now aad.now ct.now) result };
+        ensures answer { OpensTo (crypto.aead_open key.now nonce.now aad.now ct.now) result }
+        ensures refused { crypto.aead_open key.now nonce.now aad.now ct.now ≡ None
+            → result ≡ Ok None };
 
     // The number that definitions see is the suite's.
     ghost numbered: { crypto.number ≡ NUMBER };

@@ -1,4 +1,5 @@
-//! Worked conversations of a group of three: messages by hand under both suites, and what is refused.
+//! Worked conversations of a group of three: messages by hand under both suites, and what is refused; and secret trees and
+//! private messages by hand.
 #![tactic(auto)]
 
 #[cfg(test)]
@@ -8,7 +9,11 @@ mod epochs;
 #[cfg(test)]
 mod orders;
 #[cfg(test)]
+mod private_messages;
+#[cfg(test)]
 mod rows;
+#[cfg(test)]
+mod secret_trees;
 #[cfg(test)]
 mod speakers;
 #[cfg(test)]

@@ -1,4 +1,5 @@
-//! Worked candidates, messages, joins, paths and pairs of members, which run under the practice suite.
+//! Worked candidates, messages, joins, paths, pairs of members, and what is saved and loaded of them, which run under the
+//! practice suite.
 #![tactic(auto)]
 
 #[cfg(test)]
@@ -15,6 +16,12 @@ mod loads;
 mod messages;
 #[cfg(test)]
 mod paths;
+#[cfg(test)]
+mod saved_candidates;
+#[cfg(test)]
+mod saved_group;
+#[cfg(test)]
+mod saved_members;
 #[cfg(test)]
 mod shared;
 #[cfg(test)]

@@ -23,7 +23,7 @@ use Rattle.mls_model.specs.Verdict.{verdict}
 use Rattle.mls_model.proofs.Sharing.{StaysBy, IsAddedBy, committer_takes, receiver_takes, receiver_shares, welcome_is, joiner_takes, joiner_shares}
 use Rattle.mls_member.specs.declared.commit.Made.{Made}
 use Rattle.mls_member.specs.declared.error.Refusal.{Refusal}
-use Rattle.mls_member.specs.Answers.{HasMade}
+use Rattle.mls_member.specs.Answers.{ReachesAll}
 use Rattle.mls_member.specs.Faults.{number_of}
 use Rattle.mls_test_pair.specs.Pair.{addition_of, member_by_welcome, IsRefusedAs}
 
@@ -82,7 +82,7 @@ welcome_bytes o v bytes is same = rw (is, same) refl
 
 -- ---- a commit that adds a candidate
 
-module _ (c : Crypto) (maker held : Member) (k : Candidate) (made : Made) (reaches : HasMade c maker held (addition_of k) made) where
+module _ (c : Crypto) (maker held : Member) (k : Candidate) (made : Made) (reaches : ReachesAll c maker held (addition_of k) made) where
   -- its maker follows it
   pub added_follows : (bytes : List ℕ) → bytes ≡ made.commit.items → (n : ℕ) → verdict c held bytes ≡ Err n → ⊥
   added_follows bytes is n h = committer_takes c maker held (addition_of k) made.commit.items (bytes_of made.welcome) reaches n (subst (λ (b : List ℕ). verdict c held b ≡ Err n) is h)
@@ -110,7 +110,7 @@ module _ (c : Crypto) (maker held : Member) (k : Candidate) (made : Made) (reach
 
 -- ---- a commit of nothing
 
-module _ (c : Crypto) (maker held m : Member) (made : Made) (reaches : HasMade c maker held [] made) (shares : ShareEpoch c maker m) where
+module _ (c : Crypto) (maker held m : Member) (made : Made) (reaches : ReachesAll c maker held [] made) (shares : ShareEpoch c maker m) where
   -- another member takes it
   pub none_taken : (bytes : List ℕ) → bytes ≡ made.commit.items → (n : ℕ) → verdict c m bytes ≡ Err n → ⊥
   none_taken bytes is n h = receiver_takes c maker held [] made.commit.items (bytes_of made.welcome) reaches m shares (keeps_none m.kept maker.kept) (stays_by_none m) n (subst (λ (b : List ℕ). verdict c m b ≡ Err n) is h)

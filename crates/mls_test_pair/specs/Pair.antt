@@ -11,7 +11,7 @@ use Rattle.mls_model.specs.Candidate.{Candidate}
 use Rattle.mls_model.specs.Join.{JoinedMember, join_verdict}
 use Rattle.mls_model.specs.Make.{commit_call}
 use Rattle.mls_model.specs.Member.{Member}
-use Rattle.mls_member.specs.Answers.{HasMade}
+use Rattle.mls_member.specs.Answers.{ReachesAll}
 use Rattle.mls_member.specs.Faults.{number_of}
 use Rattle.mls_member.specs.declared.commit.Made.{Made}
 use Rattle.mls_member.specs.declared.error.Refusal.{Refusal}
@@ -26,7 +26,7 @@ IsRefusedAs defined e = number_of e ≢ 1 → defined ≡ Err (number_of e)
 
 -- the commit that adds a candidate reaches the group (RFC 9420, 12.4)
 abbrev pub AdditionReaches : Crypto → Candidate → Member → Member → Result Made Refusal → Type 0
-AdditionReaches c k old new result = IfOk result (HasMade c old new (addition_of k))
+AdditionReaches c k old new result = IfOk result (ReachesAll c old new (addition_of k))
 
 -- a call is refused what a commit with a path is refused that adds a candidate, or for want of memory
 abbrev pub IsRefusedAddition : Crypto → Candidate → List ℕ → Member → Refusal → Type 0

@@ -6,7 +6,7 @@ ghost use Rattle.mls_types.specs.declared.commit.ProposalOrRef.TheVariants.{Prop
 ghost use Rattle.mls_leaf.specs.declared.proposal.Proposal.TheVariants.{Add};
 ghost use Rattle.mls_model.specs.Agreement.{Agree, AgreeSecret};
 ghost use Rattle.mls_model.specs.MemberInvariant.{IsGoodCandidate, IsGoodMember};
-ghost use Rattle.mls_model.specs.Make.{listed_of};
+ghost use Rattle.mls_model.specs.Make.{list_item_of};
 ghost use Rattle.mls_model.specs.Sharing.{ShareEpoch};
 ghost use Rattle.mls_member.specs.Answers.{AreShortItems, IsShortItem};
 ghost use Rattle.mls_test_pair.specs.Pair.{AdditionReaches, Enters, IsRefusedAddition, IsRefusedRenewal, addition_of};
@@ -43,7 +43,7 @@ pub struct Pair<S: Suite> {
 
 /// The proposal that adds a candidate by its own KeyPackage, in full.
 fn addition<S: Suite>(candidate: &Candidate<S>) -> Result<Item, OutOfMemory>
-    ensures item { IfOk result (λ i. listed_of i ≡ in_full (Add candidate.now.offered)) }
+    ensures item { IfOk result (λ i. list_item_of i ≡ in_full (Add candidate.now.offered)) }
     ensures short { IfOk result IsShortItem }
 {
     Ok(Item::Full(candidate.addition()?))
@@ -54,7 +54,7 @@ fn addition_list<S: Suite>(
     alloc: Global,
     candidate: &Candidate<S>,
 ) -> Result<Vec<Item>, OutOfMemory>
-    ensures list { IfOk result (λ v. map listed_of v.items ≡ addition_of candidate.now) }
+    ensures list { IfOk result (λ v. map list_item_of v.items ≡ addition_of candidate.now) }
     ensures short { IfOk result (λ v. AreShortItems v.items) }
 {
     let mut items = Vec::new(alloc);

@@ -1,10 +1,11 @@
-ghost use Rattle.std.specs.Prelude.{◌≡◌, IfOk, vec_len};
+ghost use Rattle.std.specs.Prelude.{◌≡◌, IfOk, length, vec_len};
 ghost use Rattle.mls_treemath.specs.Paths.{nodes_in};
 
 use mls_leaf::{Codec, LeafError, LeafNode, Node, ParentNode};
 use mls_tree_array::{
-    alternates, filtered_path, first_blank, has_last, has_leaf, height_for, is_reached,
-    is_reached_at, leaf, member_count, pad, resolution, resolution_at, to_nodes,
+    HashedSubtree, Hashes, Subtree, alternates, filtered_path, first_blank, first_wrong_hash,
+    first_wrong_list, has_good_lists, has_last, has_leaf, height_for, is_reached, is_reached_at,
+    leaf, member_count, pad, resolution, resolution_at, to_nodes,
 };
 use mls_tree_slot::Slot;
 use std::alloc::Global;
@@ -14,10 +15,12 @@ const LEAF: [u8; 25] = [
     1, 0xbb, 1, 0xcc, 0, 1, 3, 0x62, 0x6f, 0x62, 2, 0, 1, 2, 0xf0, 1, 0, 0, 2, 0, 1, 2, 0, 1, 0xdd,
 ];
 
-// A parent that lists leaf 1, and one that lists none.
+// Parents that list leaf 1, none, and leaf 2.
 const X: [u8; 8] = [1, 0xaa, 0, 4, 0, 0, 0, 1];
 
 const Y: [u8; 4] = [1, 0xbb, 0, 0];
+
+const Z: [u8; 8] = [1, 0xcc, 0, 4, 0, 0, 0, 2];
 
 // A node of the example of RFC 9420, 4.1.1: X[B] over A, B, a blank leaf and D, and Y over E and F, beside a
 // blank leaf and H.
@@ -33,40 +36,53 @@ fn example_node(alloc: Global, x: usize) -> Result<Slot, LeafError> {
     }
 }
 
-fn example(alloc: Global) -> Result<Vec<Slot>, LeafError>
+// The example, with parents in these places that list leaf 2, which is blank.
+fn example_with(alloc: Global, wrong: &[usize]) -> Result<Vec<Slot>, LeafError>
     ensures { IfOk result (λ nodes. vec_len nodes ≡ nodes_in 3) }
 {
     let mut nodes = Vec::new(alloc);
     for x in 0..15 {
-        let node = example_node(alloc, x)?;
+        let node = if wrong.contains(&x) {
+            Slot::of(alloc, Node::Parent(ParentNode::decode(alloc, &Z)?))?
+        } else {
+            example_node(alloc, x)?
+        };
         nodes.push(node)?;
     }
     Ok(nodes)
 }
 
+fn example(alloc: Global) -> Result<Vec<Slot>, LeafError>
+    ensures { IfOk result (λ nodes. vec_len nodes ≡ nodes_in 3) }
+{
+    example_with(alloc, &[])
+}
+
 #[test]
 fn resolutions_of_the_example(rt: HostRuntime) -> Result<(), Fail> {
     let nodes = example(rt.alloc())?;
+    let tree = Subtree::of(&nodes, 3);
     let mut out = Vec::new(rt.alloc());
-    resolution(&nodes, 3, 0, &mut out)?;
+    resolution(&tree, &mut out)?;
     assert_eq!(rt; out.as_slice(), [3, 2, 9, 14].as_slice());
     out.clear();
-    resolution_at(&nodes, 3, 0, 3, &mut out)?;
-    resolution_at(&nodes, 3, 0, 4, &mut out)?;
-    resolution_at(&nodes, 3, 0, 15, &mut out)?;
+    resolution_at(&tree, 3, &mut out)?;
+    resolution_at(&tree, 4, &mut out)?;
+    resolution_at(&tree, 15, &mut out)?;
     assert_eq!(rt; out.as_slice(), [3, 2].as_slice());
-    assert!(rt; is_reached_at(&nodes, 3, 0, 3));
-    assert!(rt; !is_reached_at(&nodes, 3, 0, 4));
-    assert!(rt; !is_reached_at(&nodes, 3, 0, 15));
+    assert!(rt; is_reached_at(&tree, 3));
+    assert!(rt; !is_reached_at(&tree, 4));
+    assert!(rt; !is_reached_at(&tree, 15));
     Ok(())
 }
 
 #[test]
 fn paths_of_the_example(rt: HostRuntime) -> Result<(), Fail> {
     let nodes = example(rt.alloc())?;
+    let tree = Subtree::of(&nodes, 3);
     let mut out = Vec::new(rt.alloc());
     for leaf in [0, 3, 7] {
-        filtered_path(&nodes, 3, 0, leaf, &mut out)?;
+        filtered_path(&tree, leaf, &mut out)?;
     }
     assert_eq!(rt; out.as_slice(), [1, 3, 7, 3, 7, 11, 7].as_slice());
     Ok(())
@@ -75,13 +91,44 @@ fn paths_of_the_example(rt: HostRuntime) -> Result<(), Fail> {
 #[test]
 fn members_of_the_example(rt: HostRuntime) -> Result<(), Fail> {
     let nodes = example(rt.alloc())?;
-    assert_eq!(rt; first_blank(&nodes, 3, 0, 0), Some(2));
+    let tree = Subtree::of(&nodes, 3);
+    assert_eq!(rt; first_blank(&tree, 0), Some(2));
     assert!(rt; has_leaf(&nodes, 3));
-    assert!(rt; is_reached(&nodes, 3));
-    assert_eq!(rt; member_count(&nodes, 3), 6);
+    assert!(rt; is_reached(&tree));
+    assert_eq!(rt; member_count(&tree), 6);
     for (i, taken) in [(0, true), (2, false), (7, true), (8, false)] {
         assert_eq!(rt; leaf(&nodes, 3, i).is_some(), taken, "at {i}");
     }
+    Ok(())
+}
+
+// The first parent of eight leaves with a wrong list, or where all are right that isn't parent-hash valid.
+fn first_wrong(alloc: Global, nodes: &[Slot]) -> Result<Option<u32>, LeafError>
+    requires { length nodes.now ≡ nodes_in 3 }
+{
+    let tree = Subtree::of(nodes, 3);
+    if !has_good_lists(&tree) {
+        return Ok(first_wrong_list(&tree));
+    }
+    let mut hashes = Hashes::new_cold(alloc, nodes.len())?;
+    let _tree_hash = hashes.fill(nodes, 3);
+    let hashed = HashedSubtree::of(tree, hashes.as_slice());
+    Ok(first_wrong_hash(alloc, &hashed)?)
+}
+
+fn first_wrong_with(alloc: Global, wrong: &[usize]) -> Result<Option<u32>, LeafError> {
+    let nodes = example_with(alloc, wrong)?;
+    first_wrong(alloc, &nodes)
+}
+
+#[test]
+fn the_first_wrong_parent(rt: HostRuntime) -> Result<(), Fail> {
+    let alloc = rt.alloc();
+    assert_eq!(rt; first_wrong_with(alloc, &[])?, Some(3));
+    assert_eq!(rt; first_wrong_with(alloc, &[7])?, Some(7));
+    assert_eq!(rt; first_wrong_with(alloc, &[7, 13])?, Some(13));
+    assert_eq!(rt; first_wrong_with(alloc, &[13, 9, 11])?, Some(9));
+    assert_eq!(rt; first_wrong_with(alloc, &[7, 3, 5])?, Some(5));
     Ok(())
 }
 

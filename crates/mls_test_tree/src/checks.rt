@@ -1,4 +1,4 @@
-use mls_checks::{CheckError, Source, key_package, replaced};
+use mls_checks::{CheckError, LeafUse, check_replacement, key_package};
 use mls_leaf::{Codec, KeyPackage, LeafNode};
 use mls_suite::Glass;
 use std::alloc::Global;
@@ -153,13 +153,13 @@ fn offered(alloc: Global, bytes: &[u8]) -> Result<u8, Fail> {
     Ok(number_of(key_package::<Glass>(alloc, &offered))?)
 }
 
-fn put_in(alloc: Global, new: &[u8], old: &[u8], source: Source, index: u32) -> Result<u8, Fail> {
+fn put_in(alloc: Global, new: &[u8], old: &[u8], source: LeafUse, index: u32) -> Result<u8, Fail> {
     if new.len() > 1000 {
         return Err("too long".into());
     }
     let new = LeafNode::decode(alloc, new)?;
     let old = LeafNode::decode(alloc, old)?;
-    Ok(number_of(replaced::<Glass>(alloc, &new, &old, source, b"g", index))?)
+    Ok(number_of(check_replacement::<Glass>(alloc, &new, &old, source, b"g", index))?)
 }
 
 #[test]
@@ -182,14 +182,14 @@ fn key_packages(rt: HostRuntime) -> Result<(), Fail> {
 
 #[test]
 fn replacements(rt: HostRuntime) -> Result<(), Fail> {
-    let table: [(&[u8], &[u8], Source, u32, u8); 7] = [
-        (UPDATED, OLD, Source::Update, 5, 0),
-        (COMMITTED, OLD, Source::Commit, 5, 0),
-        (UPDATED, OLD, Source::Commit, 5, 50),
-        (UPDATED, OLD, Source::Update, 6, 51),
-        (UPDATED_VERSION, OLD, Source::Update, 5, 52),
-        (UPDATED, OLD_IDENTITY, Source::Update, 5, 53),
-        (UPDATED, OLD_KEY, Source::Update, 5, 54),
+    let table: [(&[u8], &[u8], LeafUse, u32, u8); 7] = [
+        (UPDATED, OLD, LeafUse::Update, 5, 0),
+        (COMMITTED, OLD, LeafUse::Commit, 5, 0),
+        (UPDATED, OLD, LeafUse::Commit, 5, 50),
+        (UPDATED, OLD, LeafUse::Update, 6, 51),
+        (UPDATED_VERSION, OLD, LeafUse::Update, 5, 52),
+        (UPDATED, OLD_IDENTITY, LeafUse::Update, 5, 53),
+        (UPDATED, OLD_KEY, LeafUse::Update, 5, 54),
     ];
     for (new, old, source, index, number) in table {
         assert_eq!(rt; put_in(rt.alloc(), new, old, source, index)?, number);

@@ -1,353 +1,297 @@
-//! Tests: an index as its cells come and go.
+//! An index as its cells come and go.
 
-ghost use Rattle.std.specs.Prelude.{◌≡◌, ◌≤◌, nat_eq, true, IfOk};
-ghost use Rattle.mls_tree_model.specs.Sets.{is_distinct};
+mod rows;
 
-use mls_leaf::{Bytes, Capabilities, Credential, Items, LeafNode, LeafSource, Node, ParentNode};
+use crate::indexes::rows::Cell::{Blank, Leaf, Parent};
+use crate::indexes::rows::Step::{
+    Accepts, AcceptsBesideAt, AcceptsBesideFirst, CopyDistinct, Distinct, Enter, EnterSome, Finds,
+    Holds, KeepCopy, Leave, LeaveAt, LeaveInner, LeaveNowhere, LeaveSome, Put,
+};
+use crate::indexes::rows::{
+    Cell, Row, count_met, has_distinct_keys, holds, index, leaf, leave, put,
+};
 use mls_tree_index::{Index, KeyKind};
 use mls_tree_slot::Slot;
 use std::alloc::{AllocError, Global};
-use std::process::Abort;
 use std::test::Fail;
 
-fn byte(alloc: Global, b: u8) -> Result<Bytes, AllocError> {
-    Ok(Bytes::from_slice(alloc, &[b])?)
-}
-
-/// A leaf with these bytes as its keys.
-fn leaf(alloc: Global, key: u8, signature_key: u8) -> Result<Slot, AllocError> {
-    let leaf = LeafNode {
-        encryption_key: byte(alloc, key)?,
-        signature_key: byte(alloc, signature_key)?,
-        credential: Credential {
-            identity: byte(alloc, key)?,
-        },
-        capabilities: Capabilities {
-            versions: Items::from_vec(Vec::new(alloc)),
-            cipher_suites: Items::from_vec(Vec::new(alloc)),
-            extensions: Items::from_vec(Vec::new(alloc)),
-            proposals: Items::from_vec(Vec::new(alloc)),
-            credentials: Items::from_vec(Vec::new(alloc)),
-        },
-        source: LeafSource::Update,
-        signature: byte(alloc, key)?,
-    };
-    Slot::of(alloc, Node::Leaf(leaf))
-}
-
-/// A parent with this byte as its key.
-fn parent(alloc: Global, key: u8) -> Result<Slot, AllocError> {
-    let hash = byte(alloc, 0)?;
-    match ParentNode::new(byte(alloc, key)?, hash, Items::from_vec(Vec::new(alloc))) {
-        Ok(parent) => Slot::of(alloc, Node::Parent(parent)),
-        Err(_) => Ok(Slot::blank()),
-    }
-}
-
 /// Three leaves, the second blank, and a parent over the first two.
-fn cells(alloc: Global) -> Result<Vec<Slot>, AllocError> {
-    let mut cells = Vec::new(alloc);
-    cells.push(leaf(alloc, 7, 1)?)?;
-    cells.push(parent(alloc, 3)?)?;
-    cells.push(Slot::blank())?;
-    cells.push(Slot::blank())?;
-    cells.push(leaf(alloc, 5, 1)?)?;
-    Ok(cells)
-}
+const THREE: &[Cell] = &[Leaf(7, 1), Parent(3), Blank, Blank, Leaf(5, 1)];
 
-/// The index of a hundred cells at most.
-fn index(
-    rt: &impl Abort,
-    alloc: Global,
-    kind: KeyKind,
-    cells: &[Slot],
-) -> Result<Index, AllocError> {
-    assert!(rt; cells.len() <= 100);
-    Index::build(alloc, kind, cells)
-}
-
-/// Puts a cell at a place.
-fn put(cells: &mut [Slot], x: usize, cell: Slot) {
-    if let Some(place) = cells.get_mut(x) {
-        *place = cell;
-    }
-}
+const ENCRYPTION_KEYS: &[Row] = &[
+    (Holds(&[3]), true),
+    (Holds(&[5]), true),
+    (Holds(&[7]), true),
+    (Holds(&[1]), false),
+    (Holds(&[4]), false),
+    (Holds(&[8]), false),
+    (Holds(&[]), false),
+    (Holds(&[5, 0]), false),
+    (Distinct, true),
+];
 
 #[test]
 fn finds_encryption_keys(rt: HostRuntime) -> Result<(), Fail> {
-    let alloc = rt.alloc();
-    let cells = cells(alloc)?;
-    let index = index(&rt, alloc, KeyKind::Encryption, &cells)?;
-    for key in [3, 5, 7] {
-        assert!(rt; index.holds(&cells, &[key]));
-    }
-    for key in [1, 4, 8] {
-        assert!(rt; !index.holds(&cells, &[key]));
-    }
-    assert!(rt; !index.holds(&cells, &[]));
-    assert!(rt; !index.holds(&cells, &[5, 0]));
-    assert!(rt; index.are_distinct());
+    assert_eq!(rt;
+        count_met(rt.alloc(), KeyKind::Encryption, THREE, ENCRYPTION_KEYS)?,
+        ENCRYPTION_KEYS.len()
+    );
     Ok(())
 }
+
+const SIGNATURE_KEYS: &[Row] = &[(Holds(&[1]), true), (Holds(&[3]), false), (Distinct, false)];
 
 #[test]
 fn leaves_no_parent_among_signature_keys(rt: HostRuntime) -> Result<(), Fail> {
-    let alloc = rt.alloc();
-    let cells = cells(alloc)?;
-    let index = index(&rt, alloc, KeyKind::Signature, &cells)?;
-    assert!(rt; index.holds(&cells, &[1]));
-    assert!(rt; !index.holds(&cells, &[3]));
-    assert!(rt; !index.are_distinct());
+    assert_eq!(rt;
+        count_met(rt.alloc(), KeyKind::Signature, THREE, SIGNATURE_KEYS)?,
+        SIGNATURE_KEYS.len()
+    );
     Ok(())
 }
 
+const CHANGES: &[Row] = &[
+    (Put(2, Leaf(5, 2)), true),
+    (Enter(2), true),
+    (Distinct, false),
+    (Put(3, Parent(5)), true),
+    (Enter(3), true),
+    (Distinct, false),
+    (KeepCopy, true),
+    (Leave(4), true),
+    (Put(4, Blank), true),
+    (Distinct, false),
+    (Leave(2), true),
+    (Put(2, Blank), true),
+    (Distinct, true),
+    (Holds(&[5]), true),
+    (Leave(3), true),
+    (Put(3, Blank), true),
+    (Leave(3), true),
+    (Holds(&[5]), false),
+    (CopyDistinct, false),
+];
+
 #[test]
 fn follows_cells(rt: HostRuntime) -> Result<(), Fail> {
-    let alloc = rt.alloc();
-    let mut cells = cells(alloc)?;
-    let mut index = index(&rt, alloc, KeyKind::Encryption, &cells)?;
-    index.reserve(3)?;
-    put(&mut cells, 2, leaf(alloc, 5, 2)?);
-    index.enter(&cells, 2);
-    assert!(rt; !index.are_distinct());
-    put(&mut cells, 3, parent(alloc, 5)?);
-    index.enter(&cells, 3);
-    assert!(rt; !index.are_distinct());
-    let copy = index.clone()?;
-    index.leave(&cells, 4);
-    put(&mut cells, 4, Slot::blank());
-    assert!(rt; !index.are_distinct());
-    index.leave(&cells, 2);
-    put(&mut cells, 2, Slot::blank());
-    assert!(rt; index.are_distinct());
-    assert!(rt; index.holds(&cells, &[5]));
-    index.leave(&cells, 3);
-    put(&mut cells, 3, Slot::blank());
-    index.leave(&cells, 3);
-    assert!(rt; !index.holds(&cells, &[5]));
-    assert!(rt; !copy.are_distinct());
+    assert_eq!(rt;
+        count_met(rt.alloc(), KeyKind::Encryption, THREE, CHANGES)?,
+        CHANGES.len()
+    );
     Ok(())
+}
+
+/// The encryption key of leaf k of a hundred.
+fn key_of(k: u8) -> u8 {
+    k.wrapping_mul(37)
+}
+
+/// A hundred leaves; the signature key of each is half its encryption key, rounded down.
+fn hundred(alloc: Global) -> Result<Vec<Slot>, AllocError> {
+    let mut cells = Vec::new(alloc);
+    for k in 0..100u8 {
+        cells.push(leaf(alloc, key_of(k), key_of(k) / 2)?)?;
+    }
+    Ok(cells)
+}
+
+fn holds_hundred(index: &Index, cells: &[Slot]) -> bool {
+    for k in 0..100u8 {
+        if !holds(index, cells, &[key_of(k)]) {
+            return false;
+        }
+    }
+    true
+}
+
+/// Whether an index finds the encryption keys of a hundred leaves, each once.
+fn orders_hundred(alloc: Global) -> Result<bool, AllocError> {
+    let cells = hundred(alloc)?;
+    let keys = index(alloc, KeyKind::Encryption, &cells)?;
+    Ok(has_distinct_keys(&keys) && holds_hundred(&keys, &cells))
+}
+
+/// Takes out each second cell, and blanks it.
+fn leave_each_second(
+    alloc: Global,
+    index: &mut Index,
+    cells: &mut [Slot],
+) -> Result<(), AllocError> {
+    for x in 0..50u32 {
+        leave(index, cells, 2 * x + 1);
+        put(alloc, cells, 2 * x as usize + 1, Blank)?;
+    }
+    Ok(())
+}
+
+/// Whether no two of a hundred leaves have one signature key, and then of each second.
+fn halves_hundred(alloc: Global) -> Result<[bool; 2], AllocError> {
+    let mut cells = hundred(alloc)?;
+    let mut clients = index(alloc, KeyKind::Signature, &cells)?;
+    let all = has_distinct_keys(&clients);
+    leave_each_second(alloc, &mut clients, &mut cells)?;
+    Ok([all, has_distinct_keys(&clients)])
 }
 
 #[test]
 fn orders_many(rt: HostRuntime) -> Result<(), Fail> {
-    let alloc = rt.alloc();
-    let mut cells = Vec::new(alloc);
-    for k in 0..100u8 {
-        let key = k.wrapping_mul(37);
-        cells.push(leaf(alloc, key, key / 2)?)?;
-    }
-    let keys = index(&rt, alloc, KeyKind::Encryption, &cells)?;
-    let mut clients = index(&rt, alloc, KeyKind::Signature, &cells)?;
-    assert!(rt; keys.are_distinct());
-    assert!(rt; !clients.are_distinct());
-    for k in 0..100u8 {
-        assert!(rt; keys.holds(&cells, &[k.wrapping_mul(37)]));
-    }
-    for x in 0..100u32 {
-        if x % 2 == 1 {
-            clients.leave(&cells, x);
-            put(&mut cells, x as usize, Slot::blank());
-        }
-    }
-    assert!(rt; clients.are_distinct());
+    assert!(rt; orders_hundred(rt.alloc())?);
+    assert_eq!(rt; halves_hundred(rt.alloc())?, [false, true]);
     Ok(())
 }
+
+const NEW_KEYS: &[Row] = &[
+    (Accepts(1, &[]), true),
+    (Accepts(3, &[]), false),
+    (Accepts(1, &[2, 4]), true),
+    (Accepts(4, &[2, 4]), false),
+    (Accepts(1, &[2, 4, 5]), false),
+    (Leave(4), true),
+    (Accepts(1, &[2, 4, 5]), true),
+    (Accepts(1, &[2, 4, 5, 2]), false),
+];
 
 #[test]
 fn accepts_new_keys(rt: HostRuntime) -> Result<(), Fail> {
-    let alloc = rt.alloc();
-    let cells = cells(alloc)?;
-    let mut index = index(&rt, alloc, KeyKind::Encryption, &cells)?;
-    let mut keys = Vec::new(alloc);
-    assert!(rt; index.accepts(&cells, &byte(alloc, 1)?, &keys));
-    assert!(rt; !index.accepts(&cells, &byte(alloc, 3)?, &keys));
-    keys.push(byte(alloc, 2)?)?;
-    keys.push(byte(alloc, 4)?)?;
-    assert!(rt; index.accepts(&cells, &byte(alloc, 1)?, &keys));
-    assert!(rt; !index.accepts(&cells, &byte(alloc, 4)?, &keys));
-    keys.push(byte(alloc, 5)?)?;
-    assert!(rt; !index.accepts(&cells, &byte(alloc, 1)?, &keys));
-    index.leave(&cells, 4);
-    assert!(rt; index.accepts(&cells, &byte(alloc, 1)?, &keys));
-    keys.push(byte(alloc, 2)?)?;
-    assert!(rt; !index.accepts(&cells, &byte(alloc, 1)?, &keys));
+    assert_eq!(rt;
+        count_met(rt.alloc(), KeyKind::Encryption, THREE, NEW_KEYS)?,
+        NEW_KEYS.len()
+    );
     Ok(())
 }
 
-/// One place.
-fn at(x: u32) -> [u32; 1]
-    ensures { is_distinct nat_eq result ≡ true }
-{
-    [x]
-}
-
-/// The first two places.
-fn first_two() -> [u32; 2]
-    ensures { is_distinct nat_eq result ≡ true }
-{
-    [0, 1]
-}
+const KEYS_BESIDE: &[Row] = &[
+    (AcceptsBesideAt(4, 5, &[]), true),
+    (AcceptsBesideAt(4, 7, &[]), false),
+    (AcceptsBesideFirst(7, &[2, 3]), true),
+    (AcceptsBesideFirst(5, &[2, 3]), false),
+    (AcceptsBesideFirst(3, &[2, 3]), false),
+    (Holds(&[7]), true),
+];
 
 #[test]
 fn accepts_keys_beside_cells(rt: HostRuntime) -> Result<(), Fail> {
-    let alloc = rt.alloc();
-    let cells = cells(alloc)?;
-    let index = index(&rt, alloc, KeyKind::Encryption, &cells)?;
-    let mut keys = Vec::new(alloc);
-    let (first, last) = (first_two(), at(4));
-    assert!(rt; index.accepts_beside(&cells, &last, &byte(alloc, 5)?, &keys)?);
-    assert!(rt; !index.accepts_beside(&cells, &last, &byte(alloc, 7)?, &keys)?);
-    keys.push(byte(alloc, 2)?)?;
-    keys.push(byte(alloc, 3)?)?;
-    assert!(rt; index.accepts_beside(&cells, &first, &byte(alloc, 7)?, &keys)?);
-    assert!(rt; !index.accepts_beside(&cells, &first, &byte(alloc, 5)?, &keys)?);
-    assert!(rt; !index.accepts_beside(&cells, &first, &byte(alloc, 3)?, &keys)?);
-    assert!(rt; index.holds(&cells, &[7]));
+    assert_eq!(rt;
+        count_met(rt.alloc(), KeyKind::Encryption, THREE, KEYS_BESIDE)?,
+        KEYS_BESIDE.len()
+    );
     Ok(())
 }
+
+const BESIDE_A_REPEAT: &[Row] = &[
+    (AcceptsBesideAt(1, 2, &[]), false),
+    (AcceptsBesideAt(4, 2, &[]), true),
+    (AcceptsBesideAt(4, 1, &[]), false),
+    (Distinct, false),
+];
 
 #[test]
 fn accepts_keys_beside_a_repeat(rt: HostRuntime) -> Result<(), Fail> {
-    let alloc = rt.alloc();
-    let cells = cells(alloc)?;
-    let index = index(&rt, alloc, KeyKind::Signature, &cells)?;
-    let keys = Vec::new(alloc);
-    let (parent, last) = (at(1), at(4));
-    assert!(rt; !index.accepts_beside(&cells, &parent, &byte(alloc, 2)?, &keys)?);
-    assert!(rt; index.accepts_beside(&cells, &last, &byte(alloc, 2)?, &keys)?);
-    assert!(rt; !index.accepts_beside(&cells, &last, &byte(alloc, 1)?, &keys)?);
-    assert!(rt; !index.are_distinct());
+    assert_eq!(rt;
+        count_met(rt.alloc(), KeyKind::Signature, THREE, BESIDE_A_REPEAT)?,
+        BESIDE_A_REPEAT.len()
+    );
     Ok(())
-}
-
-/// The places of all cells but the ends.
-fn inner() -> [u32; 6]
-    ensures { is_distinct nat_eq result ≡ true }
-{
-    [6, 2, 5, 1, 3, 4]
-}
-
-/// Some places, among them the ends.
-fn some() -> [u32; 4]
-    ensures { is_distinct nat_eq result ≡ true }
-{
-    [7, 0, 4, 3]
-}
-
-/// No places.
-fn nowhere() -> [u32; 0]
-    ensures { is_distinct nat_eq result ≡ true }
-{
-    []
 }
 
 /// Eight leaves, the fourth blank.
-fn eight(alloc: Global) -> Result<Vec<Slot>, AllocError> {
-    let mut cells = Vec::new(alloc);
-    for key in [40, 10, 30, 0, 70, 20, 60, 50] {
-        if key == 0 {
-            cells.push(Slot::blank())?;
-        } else {
-            cells.push(leaf(alloc, key, key / 20)?)?;
-        }
-    }
-    Ok(cells)
+const EIGHT: &[Cell] = &[
+    Leaf(40, 2),
+    Leaf(10, 0),
+    Leaf(30, 1),
+    Blank,
+    Leaf(70, 3),
+    Leaf(20, 1),
+    Leaf(60, 3),
+    Leaf(50, 2),
+];
+
+/// How many rows hold as told, beginning with the index of the encryption keys of eight leaves.
+fn count_met_of_eight(alloc: Global, rows: &[Row]) -> Result<usize, AllocError> {
+    count_met(alloc, KeyKind::Encryption, EIGHT, rows)
 }
 
-/// Whether an index finds these keys and no others.
-fn finds(index: &Index, cells: &[Slot], keys: &[u8]) -> bool {
-    let mut right = true;
-    for key in 0..100u8 {
-        if index.holds(cells, &[key]) != keys.contains(&key) {
-            right = false;
-        }
-    }
-    right
-}
-
-/// Puts leaves with these keys at some places.
-fn change(alloc: Global, cells: &mut [Slot], leaves: &[(usize, u8)]) -> Result<(), AllocError> {
-    for (x, key) in leaves {
-        put(cells, *x, leaf(alloc, *key, 1)?);
-    }
-    Ok(())
-}
-
-/// The index of eight cells without some, and with room for these.
-fn without_some(rt: &impl Abort, alloc: Global, cells: &[Slot]) -> Result<Index, AllocError>
-    ensures { IfOk result (λ t. 4 ≤ t.room) }
-{
-    let mut index = index(rt, alloc, KeyKind::Encryption, cells)?;
-    index.reserve(4)?;
-    index.leave_all(cells, &some());
-    Ok(index)
-}
+const MANY_OUT: &[Row] = &[
+    (Finds(&[10, 20, 30, 40, 50, 60, 70]), true),
+    (LeaveInner, true),
+    (Finds(&[40, 50]), true),
+    (LeaveSome, true),
+    (LeaveNowhere, true),
+    (Finds(&[]), true),
+];
 
 #[test]
 fn takes_many_out_at_once(rt: HostRuntime) -> Result<(), Fail> {
-    let alloc = rt.alloc();
-    let cells = eight(alloc)?;
-    let mut index = index(&rt, alloc, KeyKind::Encryption, &cells)?;
-    assert!(rt; finds(&index, &cells, &[10, 20, 30, 40, 50, 60, 70]));
-    index.leave_all(&cells, &inner());
-    assert!(rt; finds(&index, &cells, &[40, 50]));
-    index.leave_all(&cells, &some());
-    index.leave_all(&cells, &nowhere());
-    assert!(rt; finds(&index, &cells, &[]));
+    assert_eq!(rt; count_met_of_eight(rt.alloc(), MANY_OUT)?, MANY_OUT.len());
     Ok(())
 }
+
+const MANY_IN: &[Row] = &[
+    (LeaveSome, true),
+    (Finds(&[10, 20, 30, 60]), true),
+    (Put(7, Leaf(25, 1)), true),
+    (Put(0, Leaf(80, 1)), true),
+    (Put(4, Leaf(5, 1)), true),
+    (EnterSome, true),
+    (Finds(&[5, 10, 20, 25, 30, 60, 80]), true),
+    (Distinct, true),
+];
 
 #[test]
 fn enters_many_at_once(rt: HostRuntime) -> Result<(), Fail> {
-    let alloc = rt.alloc();
-    let mut cells = eight(alloc)?;
-    let mut index = without_some(&rt, alloc, &cells)?;
-    assert!(rt; finds(&index, &cells, &[10, 20, 30, 60]));
-    change(alloc, &mut cells, &[(7, 25), (0, 80), (4, 5)])?;
-    index.enter_all(&cells, &some());
-    assert!(rt; finds(&index, &cells, &[5, 10, 20, 25, 30, 60, 80]));
-    assert!(rt; index.are_distinct());
+    assert_eq!(rt; count_met_of_eight(rt.alloc(), MANY_IN)?, MANY_IN.len());
     Ok(())
 }
+
+const ONE_PLACE: &[Row] = &[
+    (LeaveSome, true),
+    (Put(7, Leaf(85, 1)), true),
+    (Put(0, Leaf(80, 1)), true),
+    (Put(4, Leaf(5, 1)), true),
+    (Put(3, Leaf(90, 1)), true),
+    (EnterSome, true),
+    (Finds(&[5, 10, 20, 30, 60, 80, 85, 90]), true),
+    (Distinct, true),
+];
 
 #[test]
 fn enters_many_at_one_place(rt: HostRuntime) -> Result<(), Fail> {
-    let alloc = rt.alloc();
-    let mut cells = eight(alloc)?;
-    let mut index = without_some(&rt, alloc, &cells)?;
-    change(alloc, &mut cells, &[(7, 85), (0, 80), (4, 5), (3, 90)])?;
-    index.enter_all(&cells, &some());
-    assert!(rt; finds(&index, &cells, &[5, 10, 20, 30, 60, 80, 85, 90]));
-    assert!(rt; index.are_distinct());
+    assert_eq!(rt; count_met_of_eight(rt.alloc(), ONE_PLACE)?, ONE_PLACE.len());
     Ok(())
 }
+
+const BESIDE_THEIR_KEY: &[Row] = &[
+    (LeaveSome, true),
+    (Put(0, Leaf(20, 1)), true),
+    (EnterSome, true),
+    (Finds(&[10, 20, 30, 50, 60, 70]), true),
+    (Distinct, false),
+    (LeaveSome, true),
+    (Finds(&[10, 20, 30, 60]), true),
+    (Distinct, true),
+];
 
 #[test]
 fn enters_many_beside_their_key(rt: HostRuntime) -> Result<(), Fail> {
-    let alloc = rt.alloc();
-    let mut cells = eight(alloc)?;
-    let mut index = without_some(&rt, alloc, &cells)?;
-    change(alloc, &mut cells, &[(0, 20)])?;
-    index.enter_all(&cells, &some());
-    assert!(rt; finds(&index, &cells, &[10, 20, 30, 50, 60, 70]));
-    assert!(rt; !index.are_distinct());
-    index.leave_all(&cells, &some());
-    assert!(rt; finds(&index, &cells, &[10, 20, 30, 60]));
-    assert!(rt; index.are_distinct());
+    assert_eq!(rt;
+        count_met_of_eight(rt.alloc(), BESIDE_THEIR_KEY)?,
+        BESIDE_THEIR_KEY.len()
+    );
     Ok(())
 }
 
+const ONE_KEY: &[Row] = &[
+    (LeaveSome, true),
+    (Put(0, Leaf(50, 1)), true),
+    (EnterSome, true),
+    (Distinct, false),
+    (LeaveAt(7), true),
+    (Finds(&[10, 20, 30, 50, 60, 70]), true),
+    (Distinct, true),
+];
+
 #[test]
 fn enters_many_of_one_key(rt: HostRuntime) -> Result<(), Fail> {
-    let alloc = rt.alloc();
-    let mut cells = eight(alloc)?;
-    let mut index = without_some(&rt, alloc, &cells)?;
-    change(alloc, &mut cells, &[(0, 50)])?;
-    index.enter_all(&cells, &some());
-    assert!(rt; !index.are_distinct());
-    index.leave_all(&cells, &at(7));
-    assert!(rt; finds(&index, &cells, &[10, 20, 30, 50, 60, 70]));
-    assert!(rt; index.are_distinct());
+    assert_eq!(rt; count_met_of_eight(rt.alloc(), ONE_KEY)?, ONE_KEY.len());
     Ok(())
 }

@@ -1,5 +1,5 @@
-//! Worked places, checks of leaves, hashes of nodes, indexes of keys, arrays of nodes, and private keys of small
-//! trees: tests alone, above the crates that they use.
+//! Worked places, checks of leaves, hashes of nodes, indexes of keys, arrays of nodes, public trees by rows, and
+//! private keys of small trees: tests alone, above the crates that they use.
 #![tactic(auto)]
 
 #[cfg(test)]
@@ -8,6 +8,8 @@ mod arrays;
 mod checks;
 #[cfg(test)]
 mod commits;
+#[cfg(test)]
+mod hash_counts;
 #[cfg(test)]
 mod hashes;
 #[cfg(test)]
@@ -19,8 +21,18 @@ mod keys;
 #[cfg(test)]
 mod openings;
 #[cfg(test)]
+mod paths;
+#[cfg(test)]
+mod repeats;
+#[cfg(test)]
+mod rows;
+#[cfg(test)]
 mod seals;
+#[cfg(test)]
+mod shapes;
 #[cfg(test)]
 mod slots;
 #[cfg(test)]
 mod small_trees;
+#[cfg(test)]
+mod tree_checks;

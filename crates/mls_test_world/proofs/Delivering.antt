@@ -60,7 +60,7 @@ receiver_alike w v d k s e r = record { active = record { is = e ∙ r.active.is
 added_alike : (w v : World) (d : CommitMade) (n : ℕ) (e : Entrant) → slice_get v.entrants n ≡ slice_get w.entrants n → IsAdded w n e d → IsAdded v n e d
 added_alike w v d n e same a = record { is = same ∙ a.is; unspent = a.unspent; adds = a.adds }
 
-welcome_alike : (w v : World) (d : CommitMade) (e : Entrant) (source : Source) → v.made ≡ w.made → IsWelcomeFor w d e source → IsWelcomeFor v d e source
+welcome_alike : (w v : World) (d : CommitMade) (e : Entrant) (source : Source) → v.commits ≡ w.commits → IsWelcomeFor w d e source → IsWelcomeFor v d e source
 welcome_alike w v d e (Given given) same h = (h.0, ap (λ (made : List CommitMade). commit_for_joiner made (Given given) e.candidate) same ∙ h.1)
 welcome_alike w v d e (Message n) same h = h
 
@@ -127,14 +127,14 @@ there_other w d (event.DropPending l) x = absurd x
 
 -- ---- what one delivery does
 
-entry_is : (m : Member) (e : Entry) → Keeps m.kept (list_in e.commit) e.names → entry_of m e.commit ≡ e
+entry_is : (m : Member) (e : Entry) → Keeps m.kept (list_in e.commit) e.named_messages → entry_of m e.commit ≡ e
 unfolding entry_of
-entry_is m e keeps = ap (λ (names : List (List ℕ)). entry_with e.commit names) (names_are_held m.kept (list_in e.commit) e.names keeps)
+entry_is m e keeps = ap (λ (names : List (List ℕ)). entry_with e.commit names) (names_are_held m.kept (list_in e.commit) e.named_messages keeps)
   where
     entry_with : List ℕ → List (List ℕ) → Entry
-    entry_with commit names = record { commit = commit; names = names }
+    entry_with commit names = record { commit = commit; named_messages = names }
 
-journal_is : (s : Seat) (d : CommitMade) (p : List ℕ) → s.journal ≡ d.journal → p ≡ d.entry.commit → Keeps s.member.kept (list_in d.entry.commit) d.entry.names → with_entry s.journal (entry_of s.member p) ≡ with_entry d.journal d.entry
+journal_is : (s : Seat) (d : CommitMade) (p : List ℕ) → s.journal ≡ d.journal → p ≡ d.entry.commit → Keeps s.member.kept (list_in d.entry.commit) d.entry.named_messages → with_entry s.journal (entry_of s.member p) ≡ with_entry d.journal d.entry
 journal_is s d p journal same keeps =
     ap (λ (b : List ℕ). with_entry s.journal (entry_of s.member b)) same
     ∙ ap (λ (e : Entry). with_entry s.journal e) (entry_is s.member d.entry keeps)
@@ -143,15 +143,15 @@ journal_is s d p journal same keeps =
 abbrev found : List ℕ → Result (List ℕ) ℕ
 found bytes = Ok bytes
 
-own_delivery : (c : Crypto) (w : World) (place : ℕ) (d : CommitMade) (k : ℕ) (s : Seat) (source : Source) → Headline c w → slice_get w.made place ≡ Some d → IsActive w k s → s.journal ≡ d.journal → k ≡ d.maker → HasPending s d → bytes_of w source ≡ Ok d.entry.commit →
+own_delivery : (c : Crypto) (w : World) (place : ℕ) (d : CommitMade) (k : ℕ) (s : Seat) (source : Source) → Headline c w → slice_get w.commits place ≡ Some d → IsActive w k s → s.journal ≡ d.journal → k ≡ d.maker → HasPending s d → bytes_of w source ≡ Ok d.entry.commit →
     IsNext (step c w (Deliver k source)).1 d k
 own_delivery c w place d k s source h made a journal own p b =
     let maker : IsActive w d.maker s = subst (λ (i : ℕ). IsActive w i s) own a in
     let f : FollowsPending c w k s p.pending source = h.own k s p.pending source a p.is (b ∙ ap found (sym p.message)) in
-    let keeps : Keeps s.member.kept (list_in d.entry.commit) d.entry.names = h.names place d s made maker journal in
+    let keeps : Keeps s.member.kept (list_in d.entry.commit) d.entry.named_messages = h.names place d s made maker journal in
     record { seat = f.after; active = f.is_after; journal = f.journal ∙ journal_is s d p.pending.message journal p.message keeps; epoch = f.epoch ∙ p.epoch }
 
-delivered_to : (c : Crypto) (w : World) (place : ℕ) (d : CommitMade) (k : ℕ) (s : Seat) (source : Source) → Headline c w → slice_get w.made place ≡ Some d → IsHomemade w.made d.journal → IsReceiver w d k s → bytes_of w source ≡ Ok d.entry.commit →
+delivered_to : (c : Crypto) (w : World) (place : ℕ) (d : CommitMade) (k : ℕ) (s : Seat) (source : Source) → Headline c w → slice_get w.commits place ≡ Some d → IsHomemade w.commits d.journal → IsReceiver w d k s → bytes_of w source ≡ Ok d.entry.commit →
     FollowsOrLeaves (step c w (Deliver k source)).1 d k s
 delivered_to c w place d k s source h made home r b = by_maker r.can
   where
@@ -163,11 +163,11 @@ delivered_to c w place d k s source h made home r b = by_maker r.can
     by_maker (inl own) = inl (inl own.0, own_delivery c w place d k s source h made r.active r.journal own.0 own.1 b)
     by_maker (inr other) = by_accepts (is_removed s d) refl (h.accepted k s source d (record { place = place; made = made; homemade = home; active = r.active; other = other.0; journal = r.journal; keeps = other.1; bytes = b }))
 
-joined_to : (c : Crypto) (w : World) (place : ℕ) (d : CommitMade) (n : ℕ) (e : Entrant) (source : Source) → Headline c w → slice_get w.made place ≡ Some d → IsAdded w n e d → IsWelcomeFor w d e source → JoinsGroup c w n source d
+joined_to : (c : Crypto) (w : World) (place : ℕ) (d : CommitMade) (n : ℕ) (e : Entrant) (source : Source) → Headline c w → slice_get w.commits place ≡ Some d → IsAdded w n e d → IsWelcomeFor w d e source → JoinsGroup c w n source d
 joined_to c w place d n e (Message m) h made added x = h.joined_by_number place n m x.0 d e made x.1 added
 joined_to c w place d n e (Given given) h made added x =
     let j = h.joined_by_bytes place n x.0.0 given.items (Given given) d e made x.0.1 refl added in
-    subst (λ (f : CommitMade). JoinsGroup c w n (Given given) f) (one_there (commit_for_joiner w.made (Given given) e.candidate) j.0 d j.1 x.1) j.2
+    subst (λ (f : CommitMade). JoinsGroup c w n (Given given) f) (one_there (commit_for_joiner w.commits (Given given) e.candidate) j.0 d j.1 x.1) j.2
 
 -- ---- what stays of it
 
@@ -258,7 +258,7 @@ holds_on : (c : Crypto) (w : World) (e : Event) (es : List Event) → HoldsAlong
 unfolding run
 holds_on c w e es h n = h (suc n)
 
-progress : (c : Crypto) (d : CommitMade) (place : ℕ) (es : List Event) (w : World) → slice_get w.made place ≡ Some d → IsHomemade w.made d.journal → HoldsAlong c w es → AllByRecursion (IsDelivery w d) es → EachOnce es → Progress w (run c w es) d es
+progress : (c : Crypto) (d : CommitMade) (place : ℕ) (es : List Event) (w : World) → slice_get w.commits place ≡ Some d → IsHomemade w.commits d.journal → HoldsAlong c w es → AllByRecursion (IsDelivery w d) es → EachOnce es → Progress w (run c w es) d es
 unfolding run EachOnce
 progress c d place [] w made home h each once = none_yet w d
 progress c d place (Deliver k source ∷ es) w made home h each once =
@@ -296,7 +296,7 @@ progress c d place (event.DropPending l ∷ es) w made home h each once = absurd
 holds_last : (c : Crypto) (w : World) (es : List Event) → HoldsAlong c w es → Headline c (run c w es)
 holds_last c w es h = subst (λ (l : List Event). Headline c (run c w l)) (take_all (length es) es (omega arith)) (h (length es))
 
-agree_epochs : (m n : Member) → m.epoch ≡ n.epoch → AgreeSecret m n
+agree_epochs : (m n : Member) → m.epoch_secret ≡ n.epoch_secret → AgreeSecret m n
 agree_epochs m n e = record { epoch = e; nine = cc }
 
 all_agree : (c : Crypto) (w : World) (events : List Event) → HoldsAlong c w events → CommitsReachAll w events (run c w events)
@@ -318,18 +318,18 @@ all_agree c w events h d x =
     last : Headline c v
     last = holds_last c w events h
 
-    at_next : (k : ℕ) (s : Seat) → IsActive v k s → IsNext v d k → (s.journal ≡ with_entry d.journal d.entry) × (s.member.epoch ≡ d.epoch)
+    at_next : (k : ℕ) (s : Seat) → IsActive v k s → IsNext v d k → (s.journal ≡ with_entry d.journal d.entry) × (s.member.epoch_secret ≡ d.epoch_secret)
     at_next k s a n =
         let one : n.seat ≡ s = one_there (slice_get v.seats k) n.seat s n.active.is a.is in
-        (ap (λ (t : Seat). t.journal) (sym one) ∙ n.journal, ap (λ (t : Seat). t.member.epoch) (sym one) ∙ n.epoch)
+        (ap (λ (t : Seat). t.journal) (sym one) ∙ n.journal, ap (λ (t : Seat). t.member.epoch_secret) (sym one) ∙ n.epoch)
 
-    by_outcome : (k : ℕ) (s t : Seat) → IsActive v k s → FollowsOrLeaves v d k t → (s.journal ≡ with_entry d.journal d.entry) × (s.member.epoch ≡ d.epoch)
+    by_outcome : (k : ℕ) (s t : Seat) → IsActive v k s → FollowsOrLeaves v d k t → (s.journal ≡ with_entry d.journal d.entry) × (s.member.epoch_secret ≡ d.epoch_secret)
     by_outcome k s t a (inl n) = at_next k s a n.1
     by_outcome k s t a (inr g) =
         let one : g.1.seat ≡ s = one_there (slice_get v.seats k) g.1.seat s g.1.is a.is in
         absurd (true≢false (sym g.1.gone ∙ ap (λ (y : Seat). y.member.gone) one ∙ a.active))
 
-    where_it_stands : (k : ℕ) (s : Seat) → TookPart w events k → IsActive v k s → (s.journal ≡ with_entry d.journal d.entry) × (s.member.epoch ≡ d.epoch)
+    where_it_stands : (k : ℕ) (s : Seat) → TookPart w events k → IsActive v k s → (s.journal ≡ with_entry d.journal d.entry) × (s.member.epoch_secret ≡ d.epoch_secret)
     where_it_stands k s (inl to) a =
         let r = all_at (IsDelivery w d) events to.place (Deliver k to.source) x.each to.is in
         by_outcome k s r.0.0 a (p.receivers k to.place to.source r.0.0 to.is r.0.1.active.is)

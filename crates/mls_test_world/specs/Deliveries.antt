@@ -19,12 +19,12 @@ pub record HasPending (s : Seat) (d : CommitMade) : Type 0 where
   pub pending : Pending
   pub is : s.member.pending ≡ Some pending
   pub message : pending.message ≡ d.entry.commit
-  pub epoch : pending.epoch ≡ d.epoch
+  pub epoch : pending.epoch_secret ≡ d.epoch_secret
 
 -- member k made the commit and has it pending, or is another and keeps under each reference that the commit names the
 -- very message that the maker named
 abbrev pub CanFollow : ℕ → Seat → CommitMade → Type 0
-CanFollow k s d = ((k ≡ d.maker) × HasPending s d) ⊎ ((k ≢ d.maker) × Keeps s.member.kept (list_in d.entry.commit) d.entry.names)
+CanFollow k s d = ((k ≡ d.maker) × HasPending s d) ⊎ ((k ≢ d.maker) × Keeps s.member.kept (list_in d.entry.commit) d.entry.named_messages)
 
 -- member k is active, has the journal at which the commit was made, and can follow it
 pub record IsReceiver (w : World) (d : CommitMade) (k : ℕ) (s : Seat) : Type 0 where
@@ -36,7 +36,7 @@ pub record IsReceiver (w : World) (d : CommitMade) (k : ℕ) (s : Seat) : Type 0
 -- these bytes for the candidate
 abbrev pub IsWelcomeFor : World → CommitMade → Entrant → Source → Type 0
 IsWelcomeFor w d e (Message n) = (bytes : List ℕ) × (d.welcome ≡ Some (n, bytes))
-IsWelcomeFor w d e (Given given) = ((n : ℕ) × (d.welcome ≡ Some (n, given.items))) × (commit_for_joiner w.made (Given given) e.candidate ≡ Some d)
+IsWelcomeFor w d e (Given given) = ((n : ℕ) × (d.welcome ≡ Some (n, given.items))) × (commit_for_joiner w.commits (Given given) e.candidate ≡ Some d)
 
 -- an event delivers the commit to one that it is for, or its Welcome to a candidate that isn't spent and that it adds
 abbrev pub IsDelivery : World → CommitMade → Event → Type 0
@@ -58,8 +58,8 @@ EachOnce (e ∷ es) = AllByRecursion (AreApart e) es × EachOnce es
 -- a list of events, in whichever order, delivers a commit that was made at a homemade journal, and its Welcome
 pub record Delivers (w : World) (d : CommitMade) (events : List Event) : Type 0 where
   pub place : ℕ
-  pub made : slice_get w.made place ≡ Some d
-  pub homemade : IsHomemade w.made d.journal
+  pub made : slice_get w.commits place ≡ Some d
+  pub homemade : IsHomemade w.commits d.journal
   pub each : AllByRecursion (IsDelivery w d) events
   pub once : EachOnce events
 
@@ -70,7 +70,7 @@ pub record IsNext (v : World) (d : CommitMade) (k : ℕ) : Type 0 where
   pub seat : Seat
   pub active : IsActive v k seat
   pub journal : seat.journal ≡ with_entry d.journal d.entry
-  pub epoch : seat.member.epoch ≡ d.epoch
+  pub epoch : seat.member.epoch_secret ≡ d.epoch_secret
 
 -- member k was removed
 pub record IsGone (v : World) (k : ℕ) : Type 0 where

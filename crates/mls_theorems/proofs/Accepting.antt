@@ -34,7 +34,7 @@ use Rattle.mls_theorems.proofs.Secrets.{agree_secret, same_secret}
 
 -- ---- a commit that was made
 
-entry_is : (m : Member) (e : Entry) → names_in m.kept (list_in e.commit) ≡ e.names → entry_of m e.commit ≡ e
+entry_is : (m : Member) (e : Entry) → names_in m.kept (list_in e.commit) ≡ e.named_messages → entry_of m e.commit ≡ e
 unfolding entry_of
 entry_is m e h = ap (λ (x : List (List ℕ)). entry_with e.commit x) h
 
@@ -42,7 +42,7 @@ gone_is : (m : Member) → (after_removal m).gone ≡ true
 unfolding after_removal
 gone_is m = refl
 
-accepts : (c : Crypto) (creations : Creations) (w : World) (k : ℕ) (d : CommitMade) (s : Seat) (source : Source) (r : IsRecorded c creations w d) → slice_get w.seats k ≡ Some s → Keeps s.member.kept (list_in d.entry.commit) d.entry.names →
+accepts : (c : Crypto) (creations : Creations) (w : World) (k : ℕ) (d : CommitMade) (s : Seat) (source : Source) (r : IsRecorded c creations w d) → slice_get w.seats k ≡ Some s → Keeps s.member.kept (list_in d.entry.commit) d.entry.named_messages →
     bytes_of w source ≡ Ok d.entry.commit → Receives c s.member r.list r.call → Accepts c w k s source d
 accepts c creations w k d s source r at keeps b claim =
     record {
@@ -67,7 +67,7 @@ accepts c creations w k d s source r at keeps b claim =
           reply = v.reply;
           is_after = record { is = ap (λ (l : List Seat). slice_get l k) v.seats ∙ set_here w.seats k t s at; active = arrived.active };
           context = arrived.context;
-          journal = ap (with_entry s.journal) (entry_is s.member d.entry (names_are_held s.member.kept (list_in d.entry.commit) d.entry.names keeps));
+          journal = ap (with_entry s.journal) (entry_is s.member d.entry (names_are_held s.member.kept (list_in d.entry.commit) d.entry.named_messages keeps));
           epoch = f.epoch ∙ sym r.epoch;
         }
 
@@ -76,12 +76,12 @@ accepts_homemade c laws creations w g k s source d x =
     let r : IsRecorded c creations w d = g.records x.place d x.made in
     let m : Member = s.member in
     let p : IsSeated c creations w s = g.members k s x.active in
-    let here : IsReached c creations w.made d.journal.origin d.journal.entries m = along_same c creations w s.journal d.journal m x.journal p.reached in
+    let here : IsReached c creations w.commits d.journal.origin d.journal.entries m = along_same c creations w s.journal d.journal m x.journal p.reached in
     let agree : Agree r.maker m = public_agreement c creations d.journal.origin d.journal.entries r.maker m (stands c creations w d.journal r.maker r.reached) (stands c creations w d.journal m here) in
-    let secret : r.maker.epoch ≡ m.epoch = same_secret c laws creations w g.records d.journal.origin d.journal.entries (homemade_from w.made d.journal x.homemade) r.maker m r.reached here in
+    let secret : r.maker.epoch_secret ≡ m.epoch_secret = same_secret c laws creations w g.records d.journal.origin d.journal.entries (homemade_from w.commits d.journal x.homemade) r.maker m r.reached here in
     let keys : c.sig_public r.maker.signing ≢ c.sig_public m.signing = λ e. g.apart d.maker k r.seat s (λ f. x.other (sym f)) r.is_seat x.active.is (ap c.sig_public (sym r.same_signing) ∙ e) in
     let leaves : r.maker.keys.leaf ≢ m.keys.leaf = own_leaves c r.maker m r.is_made.good p.good (one_public r.maker m agree) keys in
-    let kept : Keeps m.kept r.list (names_in r.maker.kept r.list) = subst (λ (names : List (List ℕ)). Keeps m.kept r.list names) r.names (subst (λ (l : List ProposalOrRef). Keeps m.kept l d.entry.names) r.listed x.keeps) in
+    let kept : Keeps m.kept r.list (names_in r.maker.kept r.list) = subst (λ (names : List (List ℕ)). Keeps m.kept r.list names) r.names (subst (λ (l : List ProposalOrRef). Keeps m.kept l d.entry.named_messages) r.listed x.keeps) in
     let claim : Receives c m r.list r.call = receivers_hold c laws r.maker m r.list r.call r.is_made p.good x.active.active leaves agree (agree_secret r.maker m secret) kept in
     accepts c creations w k d s source r x.active.is x.keeps x.bytes claim
 
@@ -93,9 +93,9 @@ makers_keep c creations w g n d s at a same =
     let r : IsRecorded c creations w d = g.records n d at in
     let m : Member = s.member in
     let seat : r.seat ≡ s = one_there (slice_get w.seats d.maker) r.seat s r.is_seat a.is in
-    let here : IsReached c creations w.made d.journal.origin d.journal.entries m = along_same c creations w s.journal d.journal m same (g.members d.maker s a).reached in
+    let here : IsReached c creations w.commits d.journal.origin d.journal.entries m = along_same c creations w s.journal d.journal m same (g.members d.maker s a).reached in
     let agree : Agree r.maker m = public_agreement c creations d.journal.origin d.journal.entries r.maker m (stands c creations w d.journal r.maker r.reached) (stands c creations w d.journal m here) in
     let public : r.maker.public ≡ m.public = one_public r.maker m agree in
     let epoch : r.maker.public.context.epoch ≡ r.seat.member.public.context.epoch = ap (λ (p : PublicState). p.context.epoch) public ∙ ap (λ (t : Seat). t.member.public.context.epoch) (sym seat) in
-    let kept : Keeps m.kept r.list d.entry.names = subst (λ (t : Seat). Keeps t.member.kept r.list d.entry.names) seat (r.keeps epoch) in
-    subst (λ (l : List ProposalOrRef). Keeps m.kept l d.entry.names) (sym r.listed) kept
+    let kept : Keeps m.kept r.list d.entry.named_messages = subst (λ (t : Seat). Keeps t.member.kept r.list d.entry.named_messages) seat (r.keeps epoch) in
+    subst (λ (l : List ProposalOrRef). Keeps m.kept l d.entry.named_messages) (sym r.listed) kept

@@ -3,7 +3,7 @@
 use Rattle.std.proofs.Common.{◌≡◌, ℕ, true, List, [], ◌∷◌, Some, Result, Ok, refl, ap, subst, ◌∙◌, inl}
 use Rattle.mls_wire.proofs.CheckLaws.{bind_ok, given_ok}
 use Rattle.mls_wire.specs.Checks.{require_some}
-use Rattle.mls_leaf.specs.Faults.{whole}
+use Rattle.mls_wire.specs.Whole.{whole}
 use Rattle.mls_leaf.specs.Limits.{input_limit}
 use Rattle.mls_types.specs.GroupInfo.{group_info}
 use Rattle.mls_types.specs.declared.group_info.GroupInfo.{GroupInfo}
@@ -35,12 +35,12 @@ use Rattle.mls_theorems.proofs.Secrets.{agree_secret, one_creation, same_secret}
 
 -- ---- where a member stands
 
-pub stands : (c : Crypto) (creations : Creations) (w : World) (j : Journal) (m : Member) → IsReached c creations w.made j.origin j.entries m → StandsAtJournal c creations j.origin j.entries m
-stands c creations w j m r = past_along c creations w.made j.origin j.entries m r
+pub stands : (c : Crypto) (creations : Creations) (w : World) (j : Journal) (m : Member) → IsReached c creations w.commits j.origin j.entries m → StandsAtJournal c creations j.origin j.entries m
+stands c creations w j m r = past_along c creations w.commits j.origin j.entries m r
 
 -- a member that was reached along a journal was along one that is equal
-pub along_same : (c : Crypto) (creations : Creations) (w : World) (j l : Journal) (m : Member) → j ≡ l → IsReached c creations w.made j.origin j.entries m → IsReached c creations w.made l.origin l.entries m
-along_same c creations w j l m e r = subst (λ (x : Journal). IsReached c creations w.made x.origin x.entries m) e r
+pub along_same : (c : Crypto) (creations : Creations) (w : World) (j l : Journal) (m : Member) → j ≡ l → IsReached c creations w.commits j.origin j.entries m → IsReached c creations w.commits l.origin l.entries m
+along_same c creations w j l m e r = subst (λ (x : Journal). IsReached c creations w.commits x.origin x.entries m) e r
 
 -- ---- one journal
 
@@ -60,7 +60,7 @@ pub secret_if_homemade : (c : Crypto) → Lawful c → (creations : Creations) (
 secret_if_homemade c laws creations w g i j s t a b e home =
     let p = along_same c creations w s.journal t.journal s.member e (g.members i s a).reached in
     let q = (g.members j t b).reached in
-    let h : is_homemade_from w.made t.journal.origin t.journal.entries ≡ true = homemade_from w.made t.journal (subst (λ (x : Journal). IsHomemade w.made x) e home) in
+    let h : is_homemade_from w.commits t.journal.origin t.journal.entries ≡ true = homemade_from w.commits t.journal (subst (λ (x : Journal). IsHomemade w.commits x) e home) in
     agree_secret s.member t.member (same_secret c laws creations w g.records t.journal.origin t.journal.entries h s.member t.member p q)
 
 -- ---- any
@@ -85,7 +85,7 @@ unfolding public_after
 tag_after c p q e h =
     let s1 = bind_ok (decode_message e.commit) _ _ h in
     let s2 = bind_ok (require_some 41 (public_in s1.0)) _ _ s1.2 in
-    let t = tag_in_body c p q e.names s2.0.content s2.0.content.body s2.2 in
+    let t = tag_in_body c p q e.named_messages s2.0.content s2.0.content.body s2.2 in
     let reads : decode_message e.commit ≡ found (message.PublicMessage s2.0) = s1.1 ∙ ap found (public_is s1.0 s2.0 (given_ok 41 (public_in s1.0) s2.0 s2.1)) in
     (t.0, ap tag_of_message reads ∙ t.1)
 
@@ -105,8 +105,8 @@ tag_of_joined c creations info p h =
     let s = bind_ok (whole group_info input_limit info) _ _ h in
     (s.0.confirmation_tag, ap tag_of_info s.1)
 
-or_twins : (c : Crypto) (creations : Creations) (w : World) (origin : Origin) (es : List Entry) (m n : Member) → IsReached c creations w.made origin es m → IsReached c creations w.made origin es n → StandsAtJournal c creations origin es m → StandsAtJournal c creations origin es n → AgreeOrTwins m n
-or_twins c creations w (Creation k) [] m n a b p q = inl (agree_secret m n (one_creation c creations w.made k m n a b))
+or_twins : (c : Crypto) (creations : Creations) (w : World) (origin : Origin) (es : List Entry) (m n : Member) → IsReached c creations w.commits origin es m → IsReached c creations w.commits origin es n → StandsAtJournal c creations origin es m → StandsAtJournal c creations origin es n → AgreeOrTwins m n
+or_twins c creations w (Creation k) [] m n a b p q = inl (agree_secret m n (one_creation c creations w.commits k m n a b))
 or_twins c creations w (JoinedBy info) [] m n a b p q =
     let t = tag_of_joined c creations info m.public p.public in
     secret_agreement c creations (JoinedBy info) [] m n t.0 p q t.1

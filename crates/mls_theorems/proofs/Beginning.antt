@@ -19,7 +19,7 @@ use Rattle.mls_model.specs.Invariant.{IsGoodBy, IsGoodWorld}
 use Rattle.mls_model.specs.Journal.{CommitMade, new_journal}
 use Rattle.mls_model.specs.Lineage.{IsReached}
 use Rattle.mls_model.specs.Member.{Member}
-use Rattle.mls_model.specs.Messages.{is_within_limit}
+use Rattle.mls_model.specs.Messages.{require_within_limit}
 use Rattle.mls_model.specs.JournalState.{Creations}
 use Rattle.mls_model.specs.World.{World, Entrant, Seat, entrant_at}
 use Rattle.mls_theorems.proofs.Committed.{created_good}
@@ -35,7 +35,7 @@ use Rattle.mls_theorems.proofs.Sources.{bytes_within}
 -- what is said of a new one
 record NewDid (c : Crypto) (seed : List ℕ) (k : Candidate) : Type 0 where
   key : k.offered.leaf_node.signature_key ≡ c.sig_public (sign_seed seed)
-  within : is_within_limit (package_message k.offered) ≡ Ok passed
+  within : require_within_limit (package_message k.offered) ≡ Ok passed
 
 new_did : (c : Crypto) (identity seed : List ℕ) (k : Candidate) → new_candidate c identity seed ≡ Ok k → NewDid c seed k
 unfolding new_candidate signed_package unsigned_package offered_leaf signed_leaf unsigned_leaf
@@ -102,4 +102,4 @@ create_kept c creations w g n group seed x h =
     let at : slice_get (creations ++ (Some m ∷ [])) (length w.seats) ≡ Some (Some m) = subst (λ (i : ℕ). slice_get (creations ++ (Some m ∷ [])) i ≡ Some (Some m)) g.seats (get_length creations (some_member m)) in
     let t : Seat = record { member = m; journal = new_journal (from.Creation (length w.seats)) } in
     subst (λ (y : Reply × World). IsGoodWorld c y.1) (ok_is _ x s2.2)
-    (creations ++ (Some m ∷ []), one_more c creations w n s1.0 t (Some m) g u.is u.unspent did.signing did.free (alone c (creations ++ (Some m ∷ [])) w.made (length w.seats) m at good))
+    (creations ++ (Some m ∷ []), one_more c creations w n s1.0 t (Some m) g u.is u.unspent did.signing did.free (alone c (creations ++ (Some m ∷ [])) w.commits (length w.seats) m at good))

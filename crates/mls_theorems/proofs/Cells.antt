@@ -4,17 +4,16 @@ use Rattle.std.specs.List.{AllByRecursion}
 use Rattle.std.proofs.lemmas.Bool.{and_from, leb-true}
 use Rattle.mls_wire.specs.Checks.{passed}
 use Rattle.mls_wire.specs.Laws.{ok_is}
-use Rattle.mls_wire.specs.Stateful.{RunFits}
 use Rattle.mls_leaf.specs.Node.{node}
 use Rattle.mls_leaf.specs.Parent.{Parent, rises_from}
 use Rattle.mls_leaf.proofs.ParentLaws.{rises_from-nil, rises_from-more}
-use Rattle.mls_leaf.specs.ParentNode.{parent_node, rising}
+use Rattle.mls_leaf.specs.ParentNode.{parent_node, rising_rule}
 use Rattle.mls_leaf.specs.declared.node.Node.{Node}
 use Rattle.mls_leaf.specs.declared.node.Node.TheVariants.{Leaf as in_leaf, Parent as in_parent}
 use Rattle.mls_suite.specs.Crypto.{Crypto}
 use Rattle.mls_treemath.specs.Paths.{nodes_in}
 use Rattle.mls_tree_model.proofs.ArrayLaws.{perfect-term_of}
-use Rattle.mls_tree_model.specs.Arrays.{leaf_in, parent_in, term_of, padded, height_for, has_last, alternates, sent_term, from_nodes}
+use Rattle.mls_tree_model.specs.Arrays.{leaf_in, parent_in, term_of, with_padding, height_for, has_last, alternates, sent_term, from_nodes}
 use Rattle.mls_tree_model.specs.Good.{IsGood, has_good_shape, is_within, tree_checks}
 use Rattle.mls_tree_model.proofs.GoodLaws.{good_from_checks}
 use Rattle.mls_tree_model.specs.Lists.{all_parents, parent_passes, rises_here}
@@ -25,6 +24,7 @@ use Rattle.mls_tree.specs.Tree.{max_leaves}
 use Rattle.mls_model.specs.MemberInvariant.{NodeFits}
 use Rattle.mls_theorems.specs.NodeSpelling.{LeafFits, ParentShort, PartsFit}
 use Rattle.mls_wire.proofs.CheckLaws.{require_ok}
+use Rattle.mls_wire.specs.StatefulReads.{RunFits}
 use Rattle.mls_tree.proofs.Cells.{Cells, of_front, of_back, of_padded}
 
 -- ---- what holds of each cell, and of a blank one
@@ -37,7 +37,7 @@ of_all P blank (x ∷ xs) all (suc k) = of_all P blank xs all.1 k
 
 -- ---- lists rise
 
-list_rises : (low : ℕ) (xs : List ℕ) → RunFits rising low xs → rises_from low xs ≡ true
+list_rises : (low : ℕ) (xs : List ℕ) → RunFits rising_rule low xs → rises_from low xs ≡ true
 list_rises low [] fits = rises_from-nil low
 list_rises low (x ∷ xs) fits = rises_from-more low x xs (leb-true low x fits.0.1) ∙ list_rises (x + 1) xs fits.1
 
@@ -89,21 +89,21 @@ cells_parts (suc h) xs all = (
 
 -- ---- the tree
 
-sent_cells : (xs : List (Option Node)) → AllByRecursion NodeFits xs → Cells NodeFits (padded xs)
-unfolding padded
+sent_cells : (xs : List (Option Node)) → AllByRecursion NodeFits xs → Cells NodeFits (with_padding xs)
+unfolding with_padding
 sent_cells xs fits = of_padded NodeFits tt _ xs (of_all NodeFits tt xs fits)
 
 sent_rises : (xs : List (Option Node)) → AllByRecursion NodeFits xs → all_parents rises_here 0 (sent_term xs) ≡ true
 unfolding sent_term
-sent_rises xs fits = cells_rise (height_for (length xs)) 0 (padded xs) (sent_cells xs fits)
+sent_rises xs fits = cells_rise (height_for (length xs)) 0 (with_padding xs) (sent_cells xs fits)
 
 sent_parts : (xs : List (Option Node)) → AllByRecursion NodeFits xs → PartsFit (sent_term xs)
 unfolding sent_term
-sent_parts xs fits = cells_parts (height_for (length xs)) (padded xs) (sent_cells xs fits)
+sent_parts xs fits = cells_parts (height_for (length xs)) (with_padding xs) (sent_cells xs fits)
 
 sent_perfect : (xs : List (Option Node)) → is_perfect (height (sent_term xs)) (sent_term xs) ≡ true
 unfolding sent_term
-sent_perfect xs = perfect_itself (height_for (length xs)) _ (perfect-term_of (height_for (length xs)) (padded xs))
+sent_perfect xs = perfect_itself (height_for (length xs)) _ (perfect-term_of (height_for (length xs)) (with_padding xs))
 
 shaped : (t : Term) → is_full_width t ≡ true → has_good_shape t ≡ true
 unfolding has_good_shape

@@ -68,7 +68,7 @@ no_epoch_began l m n (inr a) (inr b) e = absurd (omega (arith, a, b, e))
 
 pub record WorldGrows (creations creations' : Creations) (w v : World) : Type 0 where
   pub creations_grow : Grows creations creations'
-  pub made_grow : Grows w.made v.made
+  pub made_grow : Grows w.commits v.commits
   pub messages_grow : Grows w.messages v.messages
   pub seats_go_on : SeatsGoOn w v
 
@@ -80,7 +80,7 @@ record_grows c creations creations' w v g d r =
       list = r.list;
       call = r.call;
       seat = n.after;
-      reached = past_grows c creations creations' w.made v.made g.creations_grow g.made_grow d.journal.origin d.journal.entries r.maker r.reached;
+      reached = past_grows c creations creations' w.commits v.commits g.creations_grow g.made_grow d.journal.origin d.journal.entries r.maker r.reached;
       is_made = r.is_made;
       listed = r.listed;
       commit = r.commit;
@@ -92,13 +92,13 @@ record_grows c creations creations' w v g d r =
       is_seat = n.is;
       same_signing = r.same_signing ∙ n.signing;
       since = since_on r.maker r.seat.member n.after.member r.since n.since;
-      keeps = λ e. let x = no_epoch_began r.maker r.seat.member n.after.member r.since n.since e in n.keeps x.1 r.list d.entry.names (r.keeps x.0);
+      keeps = λ e. let x = no_epoch_began r.maker r.seat.member n.after.member r.since n.since e in n.keeps x.1 r.list d.entry.named_messages (r.keeps x.0);
     }
 
 pub seated_grows : (c : Crypto) (creations creations' : Creations) (w v : World) → WorldGrows creations creations' w v → (s : Seat) → IsSeated c creations w s → IsSeated c creations' v s
-seated_grows c creations creations' w v g s a = seated_by c creations' v s (past_grows c creations creations' w.made v.made g.creations_grow g.made_grow s.journal.origin s.journal.entries s.member a.reached)
+seated_grows c creations creations' w v g s a = seated_by c creations' v s (past_grows c creations creations' w.commits v.commits g.creations_grow g.made_grow s.journal.origin s.journal.entries s.member a.reached)
 
-pub pending_grows : (w v : World) → Grows w.made v.made → (k : ℕ) (s : Seat) (p : Pending) → IsPendingOf w k s p → IsPendingOf v k s p
+pub pending_grows : (w v : World) → Grows w.commits v.commits → (k : ℕ) (s : Seat) (p : Pending) → IsPendingOf w k s p → IsPendingOf v k s p
 pending_grows w v g k s p a = record { which = a.which; place = a.place; is = g a.place a.which a.is; maker = a.maker; journal = a.journal; commit = a.commit; names = a.names; epoch = a.epoch }
 
 -- ---- more messages
@@ -120,7 +120,7 @@ two_messages x y are be (suc n) bytes e = one_message y be n bytes e
 pub more_messages : (c : Crypto) (creations : Creations) (w : World) (more : List (List ℕ)) → IsGoodBy c creations w → AreMessages more → IsGoodBy c creations (record w { messages = w.messages ++ more })
 more_messages c creations w more g are =
     let v : World = record w { messages = w.messages ++ more } in
-    let grows : WorldGrows creations creations w v = record { creations_grow = grows_none creations; made_grow = grows_none w.made; messages_grow = get_append w.messages more; seats_go_on = goes_still v } in
+    let grows : WorldGrows creations creations w v = record { creations_grow = grows_none creations; made_grow = grows_none w.commits; messages_grow = get_append w.messages more; seats_go_on = goes_still v } in
     record {
       seats = g.seats;
       candidates = g.candidates;
@@ -131,7 +131,7 @@ more_messages c creations w more g are =
       records = λ n d e. record_grows c creations creations w v grows d (g.records n d e);
       numbers = g.numbers;
       messages = λ n bytes e. by_either n bytes (get_either w.messages more n bytes e);
-      pending = λ k s p a e. pending_grows w v (grows_none w.made) k s p (g.pending k s p (record { is = a.is; active = a.active }) e);
+      pending = λ k s p a e. pending_grows w v (grows_none w.commits) k s p (g.pending k s p (record { is = a.is; active = a.active }) e);
     }
   where
     by_either : (n : ℕ) (bytes : List ℕ) → (slice_get w.messages n ≡ Some bytes) ⊎ ((j : ℕ) × (slice_get more j ≡ Some bytes)) → IsBytes bytes
@@ -142,13 +142,13 @@ more_messages c creations w more g are =
 
 -- its Welcome has a number that no other has
 abbrev pub IsNewNumber : World → CommitMade → Type 0
-IsNewNumber w d = (i n : ℕ) (x y : List ℕ) (e : CommitMade) → slice_get w.made i ≡ Some e → e.welcome ≡ Some (n, y) → d.welcome ≡ Some (n, x) → ⊥
+IsNewNumber w d = (i n : ℕ) (x y : List ℕ) (e : CommitMade) → slice_get w.commits i ≡ Some e → e.welcome ≡ Some (n, y) → d.welcome ≡ Some (n, x) → ⊥
 
-pub more_made : (c : Crypto) (creations : Creations) (w : World) (d : CommitMade) → IsGoodBy c creations w → IsRecorded c creations (record w { made = w.made ++ (d ∷ []) }) d → IsNewNumber w d →
-    IsGoodBy c creations (record w { made = w.made ++ (d ∷ []) })
+pub more_made : (c : Crypto) (creations : Creations) (w : World) (d : CommitMade) → IsGoodBy c creations w → IsRecorded c creations (record w { commits = w.commits ++ (d ∷ []) }) d → IsNewNumber w d →
+    IsGoodBy c creations (record w { commits = w.commits ++ (d ∷ []) })
 more_made c creations w d g r new =
-    let v : World = record w { made = w.made ++ (d ∷ []) } in
-    let grows : WorldGrows creations creations w v = record { creations_grow = grows_none creations; made_grow = get_append w.made (d ∷ []); messages_grow = grows_none w.messages; seats_go_on = goes_still v } in
+    let v : World = record w { commits = w.commits ++ (d ∷ []) } in
+    let grows : WorldGrows creations creations w v = record { creations_grow = grows_none creations; made_grow = get_append w.commits (d ∷ []); messages_grow = grows_none w.messages; seats_go_on = goes_still v } in
     record {
       seats = g.seats;
       candidates = g.candidates;
@@ -156,17 +156,17 @@ more_made c creations w d g r new =
       spent = λ k s e. let x = g.spent k s e in record { place = x.place; entrant = x.entrant; is = x.is; spent = x.spent; signing = x.signing };
       apart = g.apart;
       members = λ k s a. seated_grows c creations creations w v grows s (g.members k s (record { is = a.is; active = a.active }));
-      records = λ n e h. by_last n e grows (get_last w.made d n e h);
-      numbers = λ i j n x y e f a b p q. by_both i j n x y e f (get_last w.made d i e a) (get_last w.made d j f b) p q;
+      records = λ n e h. by_last n e grows (get_last w.commits d n e h);
+      numbers = λ i j n x y e f a b p q. by_both i j n x y e f (get_last w.commits d i e a) (get_last w.commits d j f b) p q;
       messages = g.messages;
-      pending = λ k s p a e. pending_grows w v (get_append w.made (d ∷ [])) k s p (g.pending k s p (record { is = a.is; active = a.active }) e);
+      pending = λ k s p a e. pending_grows w v (get_append w.commits (d ∷ [])) k s p (g.pending k s p (record { is = a.is; active = a.active }) e);
     }
   where
-    by_last : (n : ℕ) (e : CommitMade) → WorldGrows creations creations w (record w { made = w.made ++ (d ∷ []) }) → (slice_get w.made n ≡ Some e) ⊎ ((n ≡ length w.made) × (d ≡ e)) → IsRecorded c creations (record w { made = w.made ++ (d ∷ []) }) e
-    by_last n e grows (inl h) = record_grows c creations creations w (record w { made = w.made ++ (d ∷ []) }) grows e (g.records n e h)
-    by_last n e grows (inr h) = subst (IsRecorded c creations (record w { made = w.made ++ (d ∷ []) })) h.1 r
+    by_last : (n : ℕ) (e : CommitMade) → WorldGrows creations creations w (record w { commits = w.commits ++ (d ∷ []) }) → (slice_get w.commits n ≡ Some e) ⊎ ((n ≡ length w.commits) × (d ≡ e)) → IsRecorded c creations (record w { commits = w.commits ++ (d ∷ []) }) e
+    by_last n e grows (inl h) = record_grows c creations creations w (record w { commits = w.commits ++ (d ∷ []) }) grows e (g.records n e h)
+    by_last n e grows (inr h) = subst (IsRecorded c creations (record w { commits = w.commits ++ (d ∷ []) })) h.1 r
 
-    by_both : (i j n : ℕ) (x y : List ℕ) (e f : CommitMade) → (slice_get w.made i ≡ Some e) ⊎ ((i ≡ length w.made) × (d ≡ e)) → (slice_get w.made j ≡ Some f) ⊎ ((j ≡ length w.made) × (d ≡ f)) →
+    by_both : (i j n : ℕ) (x y : List ℕ) (e f : CommitMade) → (slice_get w.commits i ≡ Some e) ⊎ ((i ≡ length w.commits) × (d ≡ e)) → (slice_get w.commits j ≡ Some f) ⊎ ((j ≡ length w.commits) × (d ≡ f)) →
         e.welcome ≡ Some (n, x) → f.welcome ≡ Some (n, y) → e ≡ f
     by_both i j n x y e f (inl a) (inl b) p q = g.numbers i j n x y e f a b p q
     by_both i j n x y e f (inl a) (inr b) p q = absurd (new i n y x e a p (ap (λ (z : CommitMade). z.welcome) b.1 ∙ q))
@@ -183,7 +183,7 @@ pub either_place : (i k : ℕ) → (i ≡ k) ⊎ (i ≢ k)
 either_place i k = either_way i k (i == k) refl
 
 pub change_member : (c : Crypto) (creations : Creations) (w : World) (k : ℕ) (s t : Seat) → IsGoodBy c creations w → slice_get w.seats k ≡ Some s → s.member.signing ≡ t.member.signing → IsSince s.member t.member → KeepsOn s.member t.member →
-    (t.member.gone ≡ false → IsReached c creations w.made t.journal.origin t.journal.entries t.member) → ((p : Pending) → t.member.gone ≡ false → t.member.pending ≡ Some p → IsPendingOf w k t p) →
+    (t.member.gone ≡ false → IsReached c creations w.commits t.journal.origin t.journal.entries t.member) → ((p : Pending) → t.member.gone ≡ false → t.member.pending ≡ Some p → IsPendingOf w k t p) →
     IsGoodBy c creations (record w { seats = slice_set w.seats k t })
 change_member c creations w k s t g at signing since keeps reached pending =
     record {
@@ -218,7 +218,7 @@ change_member c creations w k s t g at signing since keeps reached pending =
     grows : WorldGrows creations creations w v
     grows = record {
       creations_grow = grows_none creations;
-      made_grow = grows_none w.made;
+      made_grow = grows_none w.commits;
       messages_grow = grows_none w.messages;
       seats_go_on = λ i x e. go i x e (either_place i k);
     }
@@ -246,8 +246,8 @@ change_member c creations w k s t g at signing since keeps reached pending =
     pending_by : (i : ℕ) (x : Seat) (p : Pending) → x.member.gone ≡ false → x.member.pending ≡ Some p → ((i ≡ k) × (t ≡ x)) ⊎ ((i ≢ k) × (slice_get w.seats i ≡ Some x)) → IsPendingOf v i x p
     pending_by i x p active e (inl h) =
         let here : IsPendingOf w k t p = pending p (ap (λ (z : Seat). z.member.gone) h.1 ∙ active) (ap (λ (z : Seat). z.member.pending) h.1 ∙ e) in
-        pending_grows w v (grows_none w.made) i x p (subst (λ (z : Seat). IsPendingOf w i z p) h.1 (subst (λ (n : ℕ). IsPendingOf w n t p) (sym h.0) here))
-    pending_by i x p active e (inr h) = pending_grows w v (grows_none w.made) i x p (g.pending i x p (record { is = h.1; active = active }) e)
+        pending_grows w v (grows_none w.commits) i x p (subst (λ (z : Seat). IsPendingOf w i z p) h.1 (subst (λ (n : ℕ). IsPendingOf w n t p) (sym h.0) here))
+    pending_by i x p active e (inr h) = pending_grows w v (grows_none w.commits) i x p (g.pending i x p (record { is = h.1; active = active }) e)
 
 -- ---- one more candidate
 
@@ -265,7 +265,7 @@ more_entrants c creations w k g good new =
       records = λ n d e. record_grows c creations creations w v grows d (g.records n d e);
       numbers = g.numbers;
       messages = g.messages;
-      pending = λ i s p a e. pending_grows w v (grows_none w.made) i s p (g.pending i s p (record { is = a.is; active = a.active }) e);
+      pending = λ i s p a e. pending_grows w v (grows_none w.commits) i s p (g.pending i s p (record { is = a.is; active = a.active }) e);
     }
   where
     x : Entrant
@@ -275,7 +275,7 @@ more_entrants c creations w k g good new =
     v = record w { entrants = w.entrants ++ (x ∷ []) }
 
     grows : WorldGrows creations creations w v
-    grows = record { creations_grow = grows_none creations; made_grow = grows_none w.made; messages_grow = grows_none w.messages; seats_go_on = goes_still v }
+    grows = record { creations_grow = grows_none creations; made_grow = grows_none w.commits; messages_grow = grows_none w.messages; seats_go_on = goes_still v }
 
     candidate_by : (i : ℕ) (e : Entrant) → (slice_get w.entrants i ≡ Some e) ⊎ ((i ≡ length w.entrants) × (x ≡ e)) → IsGoodCandidate c e.candidate
     candidate_by i e (inl h) = g.candidates i e h

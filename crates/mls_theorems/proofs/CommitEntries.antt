@@ -1,7 +1,7 @@
 -- Commits lead where their entries say.
 use Rattle.std.proofs.Common.{◌≡◌, ℕ, List, Option, Some, Result, Ok, refl, sym, ap, ◌∙◌, ◌⊎◌, inl, inr}
 use Rattle.std.proofs.lemmas.Slice.Eq.{bytes_eq-Decides}
-use Rattle.mls_types.specs.SignedParts.{framed}
+use Rattle.mls_types.specs.SignedParts.{framed_content_of}
 use Rattle.mls_types.specs.declared.commit.Commit.{Commit}
 use Rattle.mls_types.specs.declared.commit.ProposalOrRef.{ProposalOrRef}
 use Rattle.mls_types.specs.declared.message.MlsMessage.TheVariants as message
@@ -45,13 +45,13 @@ some_bytes x = Some x
 
 pub entry_at : (c : Crypto) (p : PublicState) (bytes : List ℕ) (names : List (List ℕ)) (v : PublicMessage) (commit : Commit) (tag : List ℕ) (used : List Used) (change : Change) →
     decode_message bytes ≡ Ok (message.PublicMessage v) → v.content.body ≡ body_of.Commit commit tag → used_by_names (sender_leaf v.content.sender) commit.proposals names ≡ Ok used →
-    change_of_commit c p (sender_leaf v.content.sender) used commit (framed v.content) v.content.signature ≡ Ok change → public_after c p (record { commit = bytes; names = names }) ≡ Ok (public_with change tag)
+    change_of_commit c p (sender_leaf v.content.sender) used commit (framed_content_of v.content) v.content.signature ≡ Ok change → public_after c p (record { commit = bytes; named_messages = names }) ≡ Ok (public_with change tag)
 unfolding public_after next_public
 entry_at c p bytes names v commit tag used change d b u h =
     rw d (ap (λ (x : SignedBody). public_after_body c p names v.content x) b ∙ next_at c p names v.content commit tag used change u h)
   where
     next_at : (c : Crypto) (p : PublicState) (names : List (List ℕ)) (v : SignedContent) (commit : Commit) (tag : List ℕ) (used : List Used) (change : Change) →
-        used_by_names (sender_leaf v.sender) commit.proposals names ≡ Ok used → change_of_commit c p (sender_leaf v.sender) used commit (framed v) v.signature ≡ Ok change → public_after_body c p names v (body_of.Commit commit tag) ≡ Ok (public_with change tag)
+        used_by_names (sender_leaf v.sender) commit.proposals names ≡ Ok used → change_of_commit c p (sender_leaf v.sender) used commit (framed_content_of v) v.signature ≡ Ok change → public_after_body c p names v (body_of.Commit commit tag) ≡ Ok (public_with change tag)
     next_at c p names v commit tag used change u h = rw (u, h) refl
 
 pub list_at : (bytes : List ℕ) (v : PublicMessage) (commit : Commit) (tag : List ℕ) → decode_message bytes ≡ Ok (message.PublicMessage v) → v.content.body ≡ body_of.Commit commit tag → list_in bytes ≡ commit.proposals
@@ -90,7 +90,7 @@ along_commit c m bytes epoch after v commit tag kept reads says d f =
       epoch_is = advanced_is _ _ _ _ f.is ∙ ap (λ (x : Member). x.public.context.epoch) is;
       tag = tag;
       is_tag = tag_at bytes v commit tag reads says;
-      confirmed = ap (λ (x : Member). confirmation_tag x.epoch x.public.context.confirmed_transcript_hash) (sym is) ∙ sym ((bytes_eq-Decides _ _).0 f.confirmed);
+      confirmed = ap (λ (x : Member). confirmation_tag x.epoch_secret x.public.context.confirmed_transcript_hash) (sym is) ∙ sym ((bytes_eq-Decides _ _).0 f.confirmed);
       signing = ap (λ (x : Member). x.signing) (sym is);
       leaf = ap (λ (x : Member). x.keys.leaf) (sym is);
       active = ap (λ (x : Member). x.gone) (sym is);
@@ -129,5 +129,5 @@ made_along c m list made is =
       lists = list_at made.commit v (commit_of list k.path) tag reads says;
       public = entry_at c m.public made.commit (names_in m.kept list) v (commit_of list k.path) tag k.used k.change reads says (used_by_entry c m m.kept m.keys.leaf list k.used is.good.kept k.uses) k.change_is
           ∙ ap (λ (x : Made). into_state x.pending.public) k.made_is;
-      is_tag = tag_at made.commit v (commit_of list k.path) tag reads says ∙ ap (λ (x : Made). some_bytes (confirmation_tag x.pending.epoch x.pending.public.context.confirmed_transcript_hash)) k.made_is;
+      is_tag = tag_at made.commit v (commit_of list k.path) tag reads says ∙ ap (λ (x : Made). some_bytes (confirmation_tag x.pending.epoch_secret x.pending.public.context.confirmed_transcript_hash)) k.made_is;
     }

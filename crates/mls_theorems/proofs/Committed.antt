@@ -25,14 +25,13 @@ use Rattle.mls_tree_model.specs.Way.{way}
 use Rattle.mls_tree_model.proofs.KeptLaws.{good_single}
 use Rattle.mls_tree_model.specs.Term.{Term, Leaf, width, leaf_at, leaf_of}
 use Rattle.mls_tree.specs.Rules.{rules_of}
-use Rattle.mls_treekem_model.specs.Keys.{AreKeysAlong, Exact}
+use Rattle.mls_treekem_model.specs.Keys.{AreKeysAlong, Exact, HasExact}
 use Rattle.mls_treekem_model.proofs.MemberLaws.{exact_whole}
-use Rattle.mls_treekem_model.specs.Members.{HasExact}
 use Rattle.mls_model.specs.MemberInvariant.{NodeFits, IsGoodMember, IsGoodCandidate}
 use Rattle.mls_model.specs.Candidate.{Candidate, first_context, create_group}
 use Rattle.mls_model.specs.Make.{commit_call}
 use Rattle.mls_model.specs.Member.{Member}
-use Rattle.mls_model.specs.Messages.{is_within_limit}
+use Rattle.mls_model.specs.Messages.{require_within_limit}
 use Rattle.mls_schedule.specs.Epoch.{confirmation_tag}
 use Rattle.mls_schedule.specs.Transcript.{interim_hash}
 use Rattle.mls_checks.proofs.LeafLaws.{package_steps}
@@ -97,14 +96,14 @@ unfoldable first_member : Crypto → Candidate → List ℕ → List ℕ → Mem
 first_member c k group seed = record {
   gone = false;
   public = record { context = first_context c group (Leaf (Some k.offered.leaf_node)); tree = Leaf (Some k.offered.leaf_node); interim = interim_hash [] (confirmation_tag seed []) };
-  epoch = seed;
+  epoch_secret = seed;
   keys = record { leaf = 0; own = k.leaf; above = [] };
   signing = k.signing;
   kept = [];
   pending = None;
 }
 
-first_good : (c : Crypto) (k : Candidate) (group seed : List ℕ) → IsGoodCandidate c k → is_within_limit (group_context.spell (first_context c group (Leaf (Some k.offered.leaf_node)))) ≡ Ok passed → IsGoodMember c (first_member c k group seed)
+first_good : (c : Crypto) (k : Candidate) (group seed : List ℕ) → IsGoodCandidate c k → require_within_limit (group_context.spell (first_context c group (Leaf (Some k.offered.leaf_node)))) ≡ Ok passed → IsGoodMember c (first_member c k group seed)
 unfolding first_member first_context
 first_good c k group seed good low =
     let short = within_is _ low in

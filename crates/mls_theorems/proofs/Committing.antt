@@ -28,7 +28,7 @@ use Rattle.mls_model.specs.Invariant.{IsRecorded, IsGoodBy, IsGoodWorld}
 use Rattle.mls_model.specs.Journal.{CommitMade, names_in, list_in}
 use Rattle.mls_model.specs.Make.{MadePath, Made, make, welcome_if}
 use Rattle.mls_model.specs.Member.{Member, Pending, with_pending}
-use Rattle.mls_model.specs.Messages.{is_within_limit}
+use Rattle.mls_model.specs.Messages.{require_within_limit}
 use Rattle.mls_model.specs.JournalState.{Creations}
 use Rattle.mls_model.specs.EventRange.{IsItemInRange}
 use Rattle.mls_model.specs.Welcome.{entries_for, welcome_message}
@@ -48,15 +48,15 @@ use Rattle.mls_theorems.proofs.Sources.{bytes_within, items_fit}
 
 -- ---- its messages
 
-welcome_within : (c : Crypto) (info : GroupInfo) (joiner : List ℕ) (secrets rnd : ℕ → List ℕ) (n : ℕ) (joiners : List (KeyPackage × ℕ)) (bytes : List ℕ) → welcome_message c info joiner secrets rnd n joiners ≡ Ok bytes → is_within_limit bytes ≡ Ok passed
+welcome_within : (c : Crypto) (info : GroupInfo) (joiner : List ℕ) (secrets rnd : ℕ → List ℕ) (n : ℕ) (joiners : List (KeyPackage × ℕ)) (bytes : List ℕ) → welcome_message c info joiner secrets rnd n joiners ≡ Ok bytes → require_within_limit bytes ≡ Ok passed
 unfolding welcome_message
 welcome_within c info joiner secrets rnd n joiners bytes h =
     let sealed : List ℕ = c.aead_seal (welcome_key joiner) (welcome_nonce joiner) [] (group_info.spell info) in
-    let s1 = then_ok (is_within_limit (group_info.spell info)) _ _ h in
+    let s1 = then_ok (require_within_limit (group_info.spell info)) _ _ h in
     let s2 = bind_ok (entries_for c sealed secrets rnd n joiners) _ _ s1.1 in
     let out : List ℕ = mls_message.spell (message.Welcome (record { cipher_suite = c.number; secrets = s2.0; encrypted_group_info = sealed })) in
-    let s3 = then_ok (is_within_limit out) _ _ s2.2 in
-    subst (λ (b : List ℕ). is_within_limit b ≡ Ok passed) (ok_is out bytes s3.1) s3.0
+    let s3 = then_ok (require_within_limit out) _ _ s2.2 in
+    subst (λ (b : List ℕ). require_within_limit b ≡ Ok passed) (ok_is out bytes s3.1) s3.0
 
 one_some : (o : Option (List ℕ)) (x y : List ℕ) → some x ≡ o → o ≡ Some y → x ≡ y
 one_some o x y a b = cc
@@ -64,15 +64,15 @@ one_some o x y a b = cc
 none_some : (o : Option (List ℕ)) (y : List ℕ) → None ≡ o → o ≡ Some y → ⊥
 none_some o y a b = cc
 
-if_within : (c : Crypto) (m : Member) (change : Change) (made : MadePath) (joiner tag seed : List ℕ) (joiners : List (KeyPackage × ℕ)) (o : Option (List ℕ)) (bytes : List ℕ) → welcome_if c m change made joiner tag seed joiners ≡ Ok o → o ≡ Some bytes → is_within_limit bytes ≡ Ok passed
+if_within : (c : Crypto) (m : Member) (change : Change) (made : MadePath) (joiner tag seed : List ℕ) (joiners : List (KeyPackage × ℕ)) (o : Option (List ℕ)) (bytes : List ℕ) → welcome_if c m change made joiner tag seed joiners ≡ Ok o → o ≡ Some bytes → require_within_limit bytes ≡ Ok passed
 if_within c m change made joiner tag seed [] o bytes h e = absurd (none_some o bytes (ok_is None o h) e)
 if_within c m change made joiner tag seed (x ∷ xs) o bytes h e =
     let s = bind_ok _ _ _ h in
-    subst (λ (b : List ℕ). is_within_limit b ≡ Ok passed) (one_some o s.0 bytes (ok_is (some s.0) o s.2) e) (welcome_within c _ joiner _ _ _ (x ∷ xs) s.0 s.1)
+    subst (λ (b : List ℕ). require_within_limit b ≡ Ok passed) (one_some o s.0 bytes (ok_is (some s.0) o s.2) e) (welcome_within c _ joiner _ _ _ (x ∷ xs) s.0 s.1)
 
 record MadeWithin (made : Made) : Type 0 where
-  commit : is_within_limit made.commit ≡ Ok passed
-  welcome : (bytes : List ℕ) → made.welcome ≡ Some bytes → is_within_limit bytes ≡ Ok passed
+  commit : require_within_limit made.commit ≡ Ok passed
+  welcome : (bytes : List ℕ) → made.welcome ≡ Some bytes → require_within_limit bytes ≡ Ok passed
 
 made_within : (c : Crypto) (m : Member) (list : List ProposalOrRef) (wants_path : Bool) (seed : List ℕ) (made : Made) → Makes c m list wants_path seed made → MadeWithin made
 unfolding made_of
@@ -101,7 +101,7 @@ welcome_at made messages None x e = absurd cc
 welcome_at made messages (Some b) x e = get_second messages [] made.commit b ∙ e
 
 recorded : (c : Crypto) (creations : Creations) (w : World) (k : ℕ) (s : Seat) (list : List ProposalOrRef) (made : Made) → IsGoodBy c creations w → slice_get w.seats k ≡ Some s → s.member.gone ≡ false → IsMade c s.member list made →
-    IsRecorded c creations (record w { messages = w.messages ++ commit_messages made made.welcome; made = w.made ++ (commit_record w k s list made ∷ []) }) (commit_record w k s list made)
+    IsRecorded c creations (record w { messages = w.messages ++ commit_messages made made.welcome; commits = w.commits ++ (commit_record w k s list made ∷ []) }) (commit_record w k s list made)
 unfolding commit_record
 recorded c creations w k s list made g at active is =
     let d : CommitMade = commit_record w k s list made in
@@ -110,7 +110,7 @@ recorded c creations w k s list made g at active is =
       list = list;
       call = made;
       seat = s;
-      reached = past_grows c creations creations w.made (w.made ++ (d ∷ [])) (grows_none creations) (get_append w.made (d ∷ [])) s.journal.origin s.journal.entries s.member (g.members k s (record { is = at; active = active })).reached;
+      reached = past_grows c creations creations w.commits (w.commits ++ (d ∷ [])) (grows_none creations) (get_append w.commits (d ∷ [])) s.journal.origin s.journal.entries s.member (g.members k s (record { is = at; active = active })).reached;
       is_made = is;
       listed = (made_along c s.member list made is).lists;
       commit = refl;
@@ -150,7 +150,7 @@ is_pending m p q e = e
 one_pending : (p q : Pending) → some_pending p ≡ Some q → p ≡ q
 one_pending p q e = cc
 
-pends : (c : Crypto) (w : World) (k : ℕ) (s : Seat) (list : List ProposalOrRef) (made : Made) (v : World) → v.made ≡ w.made ++ (commit_record w k s list made ∷ []) → IsMade c s.member list made →
+pends : (c : Crypto) (w : World) (k : ℕ) (s : Seat) (list : List ProposalOrRef) (made : Made) (v : World) → v.commits ≡ w.commits ++ (commit_record w k s list made ∷ []) → IsMade c s.member list made →
     IsPendingOf v k (record { member = with_pending s.member made.pending; journal = s.journal }) made.pending
 unfolding commit_record with_pending
 pends c w k s list made v is_made is =
@@ -159,8 +159,8 @@ pends c w k s list made v is_made is =
     let lists : list_in made.pending.message ≡ list = ap list_in message ∙ (made_along c s.member list made is).lists in
     record {
       which = d;
-      place = length w.made;
-      is = ap (λ (l : List CommitMade). slice_get l (length w.made)) is_made ∙ get_length w.made d;
+      place = length w.commits;
+      is = ap (λ (l : List CommitMade). slice_get l (length w.commits)) is_made ∙ get_length w.commits d;
       maker = refl;
       journal = refl;
       commit = sym message;
@@ -170,7 +170,7 @@ pends c w k s list made v is_made is =
 
 commits : (c : Crypto) (creations : Creations) (w : World) (k : ℕ) (s : Seat) (list : List ProposalOrRef) (wants_path : Bool) (seed : List ℕ) (made : Made) → IsGoodBy c creations w → slice_get w.seats k ≡ Some s →
     AllByRecursion proposal_or_ref.Fits list → make c s.member list wants_path seed ≡ Ok made →
-    IsGoodBy c creations (record (with_member w k s (with_pending s.member made.pending)) { messages = w.messages ++ commit_messages made made.welcome; made = w.made ++ (commit_record w k s list made ∷ []) })
+    IsGoodBy c creations (record (with_member w k s (with_pending s.member made.pending)) { messages = w.messages ++ commit_messages made made.welcome; commits = w.commits ++ (commit_record w k s list made ∷ []) })
 commits c creations w k s list wants_path seed made g at fits h =
     let steps = make_did c s.member list wants_path seed made h in
     let active : s.member.gone ≡ false = not-true s.member.gone steps.active in
@@ -181,12 +181,12 @@ commits c creations w k s list wants_path seed made g at fits h =
     let g1 = more_messages c creations w (commit_messages made made.welcome) g (messages_by made made.welcome (bytes_within made.commit within.commit) (λ bytes e. bytes_within bytes (within.welcome bytes e))) in
     let w1 : World = record w { messages = w.messages ++ commit_messages made made.welcome } in
     let g2 = more_made c creations w1 d g1 (recorded c creations w k s list made g at active is) (new_number c creations w k s list made g) in
-    let w2 : World = record w1 { made = w.made ++ (d ∷ []) } in
+    let w2 : World = record w1 { commits = w.commits ++ (d ∷ []) } in
     let n : Member = with_pending s.member made.pending in
     let same = pending_same s.member made.pending in
     let good' : IsGoodMember c n = pending_good c s.member made.pending good (made_pends c s.member list made is) in
     change_member c creations w2 k s (record { member = n; journal = s.journal }) g2 at same.signing (inl same) (keeps_pending s.member made.pending)
-    (λ _. reached_same c creations w2.made s.journal.origin s.journal.entries s.member n same good' (g2.members k s (record { is = at; active = active })).reached)
+    (λ _. reached_same c creations w2.commits s.journal.origin s.journal.entries s.member n same good' (g2.members k s (record { is = at; active = active })).reached)
     (λ p _ e. subst (IsPendingOf w2 k (record { member = n; journal = s.journal })) (one_pending made.pending p (is_pending s.member made.pending p e)) (pends c w k s list made w2 refl is))
 
 pub commit_kept : (c : Crypto) (creations : Creations) (w : World) → IsGoodBy c creations w → (k : ℕ) (items : List WorldItem) (path : Bool) (seed : List ℕ) (x : Reply × World) → AllByRecursion IsItemInRange items → commit_answer c w k items path seed ≡ Ok x → IsGoodWorld c x.1

@@ -11,7 +11,7 @@ use Rattle.mls_leaf.specs.Limits.{input_limit}
 use Rattle.mls_leaf.proofs.WholeLaws.{whole_takes}
 use Rattle.mls_leaf.specs.declared.proposal.Proposal.{Proposal}
 use Rattle.mls_types.specs.Message.{mls_message}
-use Rattle.mls_types.specs.SignedParts.{framed}
+use Rattle.mls_types.specs.SignedParts.{framed_content_of}
 use Rattle.mls_types.specs.declared.commit.Commit.{Commit}
 use Rattle.mls_types.specs.declared.content.FramedContent.{FramedContent}
 use Rattle.mls_types.specs.declared.message.MlsMessage.{MlsMessage}
@@ -22,7 +22,6 @@ use Rattle.mls_types.specs.declared.signed.SignedBody.TheVariants as body_of
 use Rattle.mls_suite.specs.Crypto.{Crypto}
 use Rattle.mls_leaf.specs.declared.leaf.LeafNode.{LeafNode}
 use Rattle.mls_tree_model.specs.Term.{Term, leaf_of}
-use Rattle.mls_treekem_model.specs.Members.{HasExact}
 use Rattle.mls_model.specs.declared.effect.Effect.{Effect}
 use Rattle.mls_model.specs.declared.effect.Effect.TheVariants.{Proposed, Known, Advanced, Removed}
 use Rattle.mls_model.specs.MemberInvariant.{IsGoodKept, IsGoodPending, IsGoodIfPending, IsGoodMember}
@@ -30,8 +29,9 @@ use Rattle.mls_model.specs.Commit.{Change, public_with, next_public}
 use Rattle.mls_model.specs.Member.{KeptProposal, Pending, Member, kept_under, named_proposals, first_own_key, with_keys, with_epoch, with_kept, after_removal}
 use Rattle.mls_model.specs.Messages.{decode_message, sender_leaf, reference_of}
 use Rattle.mls_model.specs.PublicState.{PublicState}
-use Rattle.mls_model.specs.Verdict.{is_kept, kept_of, verdict}
-use Rattle.mls_treekem_model.specs.Keys.{PrivateKeys}
+use Rattle.mls_model.specs.Verdict.{is_kept, verdict}
+use Rattle.mls_model.specs.VerdictFindings.{kept_of, IsFramed, IsNowKept, WasRemoved, HasFollowed, DidPending, reached_epoch}
+use Rattle.mls_treekem_model.specs.Keys.{PrivateKeys, HasExact}
 use Rattle.mls_theorems.specs.CommitLaws.{KeepsSignature}
 use Rattle.mls_theorems.proofs.Exact.{keys_next}
 use Rattle.mls_theorems.proofs.Inversion.{edited_steps, body_steps}
@@ -40,7 +40,6 @@ use Rattle.mls_theorems.proofs.Signatures.{signatures_next}
 use Rattle.mls_theorems.specs.NextStates.{IsNext}
 use Rattle.mls_theorems.proofs.Next.{is_next}
 use Rattle.mls_theorems.proofs.One.{IsOneOf}
-use Rattle.mls_model.specs.VerdictFindings.{IsFramed, IsNowKept, WasRemoved, HasFollowed, DidPending, reached_epoch}
 use Rattle.mls_model.proofs.Found.{CommitDid, ContentDid, ReceivedDid, DidOther}
 use Rattle.mls_model.proofs.Receipts.{did_receive, did_take}
 use Rattle.mls_theorems.proofs.Spelled.{commit_in}
@@ -51,7 +50,7 @@ use Rattle.mls_theorems.proofs.UnchangedMembers.{keeping_good, left_good}
 use Rattle.mls_theorems.proofs.CommitEntries.{to}
 
 abbrev framed_of : PublicMessage → FramedContent
-framed_of v = framed v.content
+framed_of v = framed_content_of v.content
 
 -- ---- what the bytes say
 
@@ -172,7 +171,7 @@ unfolding public_with
 tree_with change tag q e = ap (λ (y : PublicState). y.tree) e
 
 -- and over its own pending commit
-pub pending_leads : (c : Crypto) (m : Member) (p : Pending) → IsGoodMember c m → IsGoodPending c m p → IsGoodMember c (with_epoch m p.public p.epoch p.keys)
+pub pending_leads : (c : Crypto) (m : Member) (p : Pending) → IsGoodMember c m → IsGoodPending c m p → IsGoodMember c (with_epoch m p.public p.epoch_secret p.keys)
 unfolding next_public
 pending_leads c m p good h =
     let s = bind_ok _ _ _ h.next in
@@ -185,7 +184,7 @@ pending_leads c m p good h =
     let e = edited_steps c m.public m.keys.leaf h.used change.edits b.edits in
     let signed = signatures_next c m.public m.keys.leaf h.used h.commit (framed_of h.said) h.said.content.signature change m.keys.leaf good.own passed mine s.1 good.is_own e.not_removed in
     let exact : HasExact c change.tree p.keys = subst (λ (t : Term). HasExact c t p.keys) (sym (tree_with change h.tag p.public public)) h.keys in
-    subst (λ (q : PublicState). IsGoodMember c (with_epoch m q p.epoch p.keys)) public (next_good c m change h.tag p.epoch p.keys good next h.leaf exact signed)
+    subst (λ (q : PublicState). IsGoodMember c (with_epoch m q p.epoch_secret p.keys)) public (next_good c m change h.tag p.epoch_secret p.keys good next h.leaf exact signed)
 
 -- ---- any bytes
 
@@ -209,7 +208,7 @@ delivered_good c m bytes x good are h = by_case (did_take c m bytes x h).did
     by_case : DidPending m bytes x ⊎ DidOther c m bytes x → IsGoodMember c x.1
     by_case (inl d) =
         let p : IsGoodPending c m d.pending = subst (IsGoodIfPending c m) d.is_pending good.pending in
-        after_is (IsGoodMember c) (Advanced d.pending.public.context.epoch) (with_epoch m d.pending.public d.pending.epoch d.pending.keys) x d.is (pending_leads c m d.pending good p)
+        after_is (IsGoodMember c) (Advanced d.pending.public.context.epoch) (with_epoch m d.pending.public d.pending.epoch_secret d.pending.keys) x d.is (pending_leads c m d.pending good p)
     by_case (inr d) =
         let r : ReceivedDid c m bytes x = did_receive c m bytes x d.is in
         content_good c m bytes r.said r.said.content.body x good are r.decodes r.is_framed refl r.did

@@ -5,7 +5,7 @@ use Rattle.std.proofs.lemmas.Bool.{not-true}
 use Rattle.mls_wire.proofs.CheckLaws.{bind_ok, given_ok}
 use Rattle.mls_wire.specs.Format.{IsBytes}
 use Rattle.mls_wire.specs.Laws.{ok_is}
-use Rattle.mls_types.specs.SignedParts.{framed}
+use Rattle.mls_types.specs.SignedParts.{framed_content_of}
 use Rattle.mls_types.specs.declared.commit.Commit.{Commit}
 use Rattle.mls_types.specs.declared.content.FramedContent.{FramedContent}
 use Rattle.mls_types.specs.declared.public_message.PublicMessage.{PublicMessage}
@@ -28,9 +28,9 @@ use Rattle.mls_model.specs.Member.{Pending, Member, with_keys, with_epoch, after
 use Rattle.mls_model.specs.PublicState.{PublicState, Used}
 use Rattle.mls_model.specs.JournalState.{Creations}
 use Rattle.mls_model.specs.EventRange.{IsSourceInRange}
-use Rattle.mls_model.specs.Verdict.{kept_of, own_pending, verdict}
+use Rattle.mls_model.specs.Verdict.{own_pending, verdict}
+use Rattle.mls_model.specs.VerdictFindings.{kept_of, reached_epoch, HasFollowed, WasRemoved, DidPending}
 use Rattle.mls_model.specs.World.{World, Seat, seat_at, bytes_of}
-use Rattle.mls_model.specs.VerdictFindings.{reached_epoch, HasFollowed, WasRemoved, DidPending}
 use Rattle.mls_model.proofs.Found.{ContentDid, ReceivedDid, DidOther}
 use Rattle.mls_model.proofs.Receipts.{did_receive, did_take}
 use Rattle.mls_theorems.proofs.Delivered.{delivered_good}
@@ -53,10 +53,10 @@ reached_next c creations made j m n e past good steps = (m, past, good, steps)
 
 -- a member that followed a commit
 advances : (c : Crypto) (creations : Creations) (w : World) (k : ℕ) (s : Seat) (n : Member) (e : Entry) → IsGoodBy c creations w → slice_get w.seats k ≡ Some s → s.member.gone ≡ false → s.member.signing ≡ n.signing → s.member.public.context.epoch < n.public.context.epoch →
-    n.pending ≡ None → IsGoodMember c n → IsReachedOver c w.made s.journal s.member e n → IsGoodBy c creations (record w { seats = slice_set w.seats k (seat_with n (with_entry s.journal e)) })
+    n.pending ≡ None → IsGoodMember c n → IsReachedOver c w.commits s.journal s.member e n → IsGoodBy c creations (record w { seats = slice_set w.seats k (seat_with n (with_entry s.journal e)) })
 advances c creations w k s n e g at active signing later free good steps =
     change_member c creations w k s (seat_with n (with_entry s.journal e)) g at signing (inr later) (λ same. absurd (omega (arith, later, same)))
-    (λ _. reached_next c creations w.made s.journal s.member n e (g.members k s (record { is = at; active = active })).reached good steps) (λ p _ h. absurd (none_there n.pending p free h))
+    (λ _. reached_next c creations w.commits s.journal s.member n e (g.members k s (record { is = at; active = active })).reached good steps) (λ p _ h. absurd (none_there n.pending p free h))
 
 -- what is new of it
 fresh : (m : Member) (public : PublicState) (epoch : List ℕ) (keys : PrivateKeys) → let n : Member = with_epoch m public epoch keys in (m.signing ≡ n.signing) × (n.pending ≡ None) × (m.public.context.epoch < public.context.epoch → m.public.context.epoch < n.public.context.epoch)
@@ -89,33 +89,33 @@ next_epoch c p q i used commit said signature tag h =
     omega (arith, d, e)
 
 -- its pending commit
-own_steps : (c : Crypto) (w : World) (k : ℕ) (s : Seat) (bytes : List ℕ) (p : Pending) → IsPendingOf w k s p → p.message ≡ bytes → verdict c s.member bytes ≡ Ok (Advanced p.public.context.epoch, with_epoch s.member p.public p.epoch p.keys) →
-    IsReachedOver c w.made s.journal s.member (entry_of s.member bytes) (with_epoch s.member p.public p.epoch p.keys)
+own_steps : (c : Crypto) (w : World) (k : ℕ) (s : Seat) (bytes : List ℕ) (p : Pending) → IsPendingOf w k s p → p.message ≡ bytes → verdict c s.member bytes ≡ Ok (Advanced p.public.context.epoch, with_epoch s.member p.public p.epoch_secret p.keys) →
+    IsReachedOver c w.commits s.journal s.member (entry_of s.member bytes) (with_epoch s.member p.public p.epoch_secret p.keys)
 unfolding entry_of with_epoch
 own_steps c w k s bytes p q same h = inr (inl (record {
   which = q.which;
   here = record { place = q.place; is = q.is; journal = q.journal; entry = ap₂ entry_with (q.commit ∙ same) (q.names ∙ ap (λ (b : List ℕ). names_in s.member.kept (list_in b)) same) };
   reaches = q.epoch;
   epoch = p.public.context.epoch;
-  after = with_epoch s.member p.public p.epoch p.keys;
+  after = with_epoch s.member p.public p.epoch_secret p.keys;
   is = h;
   entry = refl;
-  same = same_itself (with_epoch s.member p.public p.epoch p.keys);
+  same = same_itself (with_epoch s.member p.public p.epoch_secret p.keys);
 }))
 
 follows_own : (c : Crypto) (creations : Creations) (w : World) (k : ℕ) (s : Seat) (bytes : List ℕ) (p : Pending) → IsGoodBy c creations w → slice_get w.seats k ≡ Some s → s.member.gone ≡ false → s.member.pending ≡ Some p → p.message ≡ bytes →
-    verdict c s.member bytes ≡ Ok (Advanced p.public.context.epoch, with_epoch s.member p.public p.epoch p.keys) → IsGoodMember c (with_epoch s.member p.public p.epoch p.keys) →
-    IsGoodBy c creations (world_by w k s bytes (Advanced p.public.context.epoch, with_epoch s.member p.public p.epoch p.keys))
+    verdict c s.member bytes ≡ Ok (Advanced p.public.context.epoch, with_epoch s.member p.public p.epoch_secret p.keys) → IsGoodMember c (with_epoch s.member p.public p.epoch_secret p.keys) →
+    IsGoodBy c creations (world_by w k s bytes (Advanced p.public.context.epoch, with_epoch s.member p.public p.epoch_secret p.keys))
 follows_own c creations w k s bytes p g at active is same h good =
     let a = g.members k s (record { is = at; active = active }) in
     let q : IsGoodPending c s.member p = subst (IsGoodIfPending c s.member) is a.good.pending in
-    let f = fresh s.member p.public p.epoch p.keys in
-    advances c creations w k s (with_epoch s.member p.public p.epoch p.keys) (entry_of s.member bytes) g at active f.0
-    (f.2 (next_epoch c s.member.public p.public s.member.keys.leaf q.used q.commit (framed q.said.content) q.said.content.signature q.tag q.next)) f.1 good
+    let f = fresh s.member p.public p.epoch_secret p.keys in
+    advances c creations w k s (with_epoch s.member p.public p.epoch_secret p.keys) (entry_of s.member bytes) g at active f.0
+    (f.2 (next_epoch c s.member.public p.public s.member.keys.leaf q.used q.commit (framed_content_of q.said.content) q.said.content.signature q.tag q.next)) f.1 good
     (own_steps c w k s bytes p (g.pending k s p (record { is = at; active = active }) is) same h)
 
 -- another's commit
-other_steps : (c : Crypto) (w : World) (s : Seat) (bytes : List ℕ) (epoch : ℕ) (n : Member) → own_pending s.member.pending bytes ≡ None → verdict c s.member bytes ≡ Ok (Advanced epoch, n) → IsReachedOver c w.made s.journal s.member (entry_of s.member bytes) n
+other_steps : (c : Crypto) (w : World) (s : Seat) (bytes : List ℕ) (epoch : ℕ) (n : Member) → own_pending s.member.pending bytes ≡ None → verdict c s.member bytes ≡ Ok (Advanced epoch, n) → IsReachedOver c w.commits s.journal s.member (entry_of s.member bytes) n
 unfolding entry_of
 other_steps c w s bytes epoch n free h = inl (record { free = free; epoch = epoch; after = n; is = h; entry = refl; same = same_itself n })
 
@@ -146,7 +146,7 @@ content_kept c creations w k s bytes v (body_of.Commit commit tag) x g at active
         let n : Member = with_epoch s.member (public_with d.change tag) (reached_epoch s.member d.change f.climb) (with_keys s.member.keys f.climb.keys) in
         subst (λ (y : Effect × Member). IsGoodBy c creations (world_by w k s bytes y)) f.is
         (follows_other c creations w k s bytes d.change.context.epoch (public_with d.change tag) (reached_epoch s.member d.change f.climb) (with_keys s.member.keys f.climb.keys) g at active free (h ∙ ap answered (sym f.is))
-        (change_epoch c s.member.public _ d.used commit (framed v.content) v.content.signature tag d.change d.change_is) (subst (IsGoodMember c) (ap (λ (y : Effect × Member). y.1) (sym f.is)) good))
+        (change_epoch c s.member.public _ d.used commit (framed_content_of v.content) v.content.signature tag d.change d.change_is) (subst (IsGoodMember c) (ap (λ (y : Effect × Member). y.1) (sym f.is)) good))
 
 delivers : (c : Crypto) (creations : Creations) (w : World) (k : ℕ) (s : Seat) (bytes : List ℕ) (x : Effect × Member) → IsGoodBy c creations w → slice_get w.seats k ≡ Some s → IsBytes bytes → verdict c s.member bytes ≡ Ok x → IsGoodBy c creations (world_by w k s bytes x)
 delivers c creations w k s bytes x g at are h = by_case (did_take c s.member bytes x h).did

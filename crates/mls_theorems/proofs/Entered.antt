@@ -9,7 +9,6 @@ use Rattle.mls_wire.specs.Checks.{passed, require_some}
 use Rattle.mls_wire.specs.Combine.{optional}
 use Rattle.mls_wire.specs.Format.{IsBytes}
 use Rattle.mls_wire.specs.Laws.{ok_is}
-use Rattle.mls_leaf.specs.Faults.{whole}
 use Rattle.mls_leaf.specs.Leaf.{leaf_node}
 use Rattle.mls_leaf.specs.Limits.{input_limit}
 use Rattle.mls_leaf.specs.Node.{node}
@@ -30,16 +29,15 @@ use Rattle.mls_tree.specs.Rules.{rules_of}
 use Rattle.mls_tree.specs.Tree.{max_leaves}
 use Rattle.mls_treekem_model.specs.Join.{take_answer, has_due}
 use Rattle.mls_treekem_model.proofs.JoinLaws.{take_exact, take_inside}
-use Rattle.mls_treekem_model.specs.Keys.{PrivateKeys}
+use Rattle.mls_treekem_model.specs.Keys.{PrivateKeys, HasExact}
 use Rattle.mls_treekem_model.proofs.MemberLaws.{exact_alone}
-use Rattle.mls_treekem_model.specs.Members.{HasExact}
 use Rattle.mls_schedule.specs.Epoch.{welcome_key, welcome_nonce, epoch_secret, confirmation_tag}
 use Rattle.mls_schedule.specs.Transcript.{interim_hash}
 use Rattle.mls_model.specs.MemberInvariant.{NodeFits, IsGoodMember, IsGoodCandidate}
 use Rattle.mls_model.specs.Candidate.{Candidate}
-use Rattle.mls_model.specs.Join.{JoinedMember, joined_tree, signer_checks, is_same_leaf, place_of, joined_keys, member_of, join_verdict}
+use Rattle.mls_model.specs.Join.{JoinedMember, joined_tree, signer_checks, is_same_leaf, place_of, joined_keys, enter_group, member_of, join_verdict}
 use Rattle.mls_model.specs.Messages.{decode_message, are_bytes}
-use Rattle.mls_model.specs.OpenedWelcome.{or_fault, welcome_in, Opened, opened_secrets, opened_welcome}
+use Rattle.mls_model.specs.OpenedWelcome.{or_fault, welcome_in, Opened, opened_secrets, open_group_info, open_for_candidate, opened_welcome}
 use Rattle.mls_model.specs.Proposals.{package_reference}
 use Rattle.mls_theorems.proofs.Exact.{exact_written}
 use Rattle.mls_theorems.proofs.Cells.{taken_good, taken_parts}
@@ -52,6 +50,7 @@ use Rattle.mls_theorems.proofs.Sent.{leaf_is_in}
 use Rattle.mls_theorems.proofs.Spelled.{one_spelled, package_leaf}
 use Rattle.mls_theorems.proofs.Stays.{inside}
 use Rattle.mls_wire.proofs.CheckLaws.{require_ok, then_ok, bind_ok, given_ok}
+use Rattle.mls_wire.specs.Whole.{whole}
 use Rattle.mls_model.proofs.KeyLaws.{leaf_stays}
 
 -- ---- what was opened
@@ -77,7 +76,7 @@ pub record HasOpened (c : Crypto) (o : Opened) : Type 0 where
   pub suite : o.info.group_context.cipher_suite ≡ c.number
 
 pub has_opened : (c : Crypto) (k : Candidate) (bytes : List ℕ) (o : Opened) → opened_welcome c k bytes ≡ Ok o → HasOpened c o
-unfolding opened_welcome
+unfolding opened_welcome open_for_candidate open_group_info
 has_opened c k bytes o h =
     let s1 = bind_ok (decode_message bytes) _ _ h in
     let s2 = bind_ok (require_some 70 (welcome_in s1.0)) _ _ s1.2 in
@@ -151,7 +150,7 @@ joined_by k o t keys = record {
   member = record {
     gone = false;
     public = record { context = o.info.group_context; tree = t; interim = interim_hash o.info.group_context.confirmed_transcript_hash o.info.confirmation_tag };
-    epoch = epoch_secret o.joiner (group_context.spell o.info.group_context);
+    epoch_secret = epoch_secret o.joiner (group_context.spell o.info.group_context);
     keys = keys;
     signing = k.signing;
     kept = [];
@@ -172,7 +171,7 @@ pub record MemberDid (c : Crypto) (k : Candidate) (o : Opened) (joined : JoinedM
   pub is : joined_by k o tree keys ≡ joined
 
 pub member_did : (c : Crypto) (k : Candidate) (o : Opened) (joined : JoinedMember) → member_of c k o ≡ Ok joined → MemberDid c k o joined
-unfolding member_of alone_at joined_by
+unfolding member_of enter_group alone_at joined_by
 member_did c k o joined h =
     let s1 = bind_ok (joined_tree c o.info) _ _ h in
     let s2 = then_ok (signer_checks c k o.info s1.0) _ _ s1.2 in

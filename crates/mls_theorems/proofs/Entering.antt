@@ -20,7 +20,7 @@ first_of o = o ∷ []
 
 -- The new member's first state, where it created its group, is one more creation.
 pub one_more : (c : Crypto) (creations : Creations) (w : World) (n : ℕ) (e : Entrant) (t : Seat) (first : Option Member) → IsGoodBy c creations w → slice_get w.entrants n ≡ Some e → e.is_spent ≡ false → e.candidate.signing ≡ t.member.signing →
-    t.member.pending ≡ None → IsReached c (creations ++ first_of first) w.made t.journal.origin t.journal.entries t.member → IsGoodBy c (creations ++ first_of first) (with_new_member w n e t)
+    t.member.pending ≡ None → IsReached c (creations ++ first_of first) w.commits t.journal.origin t.journal.entries t.member → IsGoodBy c (creations ++ first_of first) (with_new_member w n e t)
 one_more c creations w n e t first g at unspent signing free reached =
     record {
       seats = let a = length-append creations (first_of first) in let b = length-append w.seats (t ∷ []) in let q = g.seats in omega arith;
@@ -53,7 +53,7 @@ one_more c creations w n e t first g at unspent signing free reached =
     grows : WorldGrows creations more w v
     grows = record {
       creations_grow = get_append creations (first_of first);
-      made_grow = grows_none w.made;
+      made_grow = grows_none w.commits;
       messages_grow = grows_none w.messages;
       seats_go_on = λ i x h. record { after = x; is = get_append w.seats (t ∷ []) i x h; signing = refl; since = inl (same_itself x.member); keeps = keeps_same x.member x.member refl };
     }
@@ -97,5 +97,5 @@ one_more c creations w n e t first g at unspent signing free reached =
     member_by i s active (inr h) = subst (IsSeated c more v) h.1 (seated_by c more v t reached)
 
     pending_by : (i : ℕ) (s : Seat) (p : Pending) → s.member.gone ≡ false → s.member.pending ≡ Some p → (slice_get w.seats i ≡ Some s) ⊎ ((i ≡ length w.seats) × (t ≡ s)) → IsPendingOf v i s p
-    pending_by i s p active q (inl h) = pending_grows w v (grows_none w.made) i s p (g.pending i s p (record { is = h; active = active }) q)
+    pending_by i s p active q (inl h) = pending_grows w v (grows_none w.commits) i s p (g.pending i s p (record { is = h; active = active }) q)
     pending_by i s p active q (inr h) = absurd (none_there t.member.pending p free (ap (λ (y : Seat). y.member.pending) h.1 ∙ q))

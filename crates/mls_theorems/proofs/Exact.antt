@@ -9,14 +9,13 @@ use Rattle.mls_suite.specs.Crypto.{Crypto}
 use Rattle.mls_tree_model.specs.Term.{Term, leaf_at, leaf_of}
 use Rattle.mls_tree_model.specs.Way.{Step, way}
 use Rattle.mls_tree_model.specs.Merge.{merge_path}
-use Rattle.mls_treekem_model.specs.Follow.{key_above, leaf_key_after, follow_edit}
-use Rattle.mls_treekem_model.specs.Height.{HasFollowed, keys_on}
+use Rattle.mls_treekem_model.specs.Follow.{leaf_key_after, follow_edit}
+use Rattle.mls_treekem_model.specs.Height.{HasFollowed}
 use Rattle.mls_treekem_model.proofs.HeightLaws.{length-end}
-use Rattle.mls_treekem_model.specs.Keys.{Keys, Fits, AreKeysAlong, Exact, PrivateKeys, all_keys}
+use Rattle.mls_treekem_model.specs.Keys.{Keys, HoldsDueKey, AreKeysAlong, Exact, PrivateKeys, all_keys, key_above, keys_on, HasExact}
 use Rattle.mls_treekem_model.specs.Laws.{AreTwo}
 use Rattle.mls_treekem_model.specs.Make.{Climb}
 use Rattle.mls_treekem_model.proofs.MemberLaws.{exact_whole, exact_followed, exact_updated}
-use Rattle.mls_treekem_model.specs.Members.{HasExact}
 use Rattle.mls_treekem_model.specs.Open.{opened_path}
 use Rattle.mls_treekem_model.proofs.WholeLaws.{opened_exact}
 use Rattle.mls_model.specs.Proposals.{updates, updated_leaves}
@@ -109,7 +108,7 @@ followed_exact c p i used e (Some key) old h some r own had =
 -- exact keys are so when they are written into a member at their leaf
 pub exact_written : (c : Crypto) (t : Term) (old : PrivateKeys) (ks : Keys) → Exact c 0 t old.leaf ks → HasExact c t (with_keys old ks)
 exact_written c t old ks exact =
-    let ends = along_ends c (Fits c old.leaf) (way 0 t old.leaf) (leaf_at 0 t old.leaf) ks exact in
+    let ends = along_ends c (HoldsDueKey c old.leaf) (way 0 t old.leaf) (leaf_at 0 t old.leaf) ks exact in
     let back = keys_back old ends.0 ks ends.1 in
     let at = subst (λ j. Exact c 0 t j ks) (sym (leaf_stays old ks)) exact in
     exact_whole c t (with_keys old ks) (subst (λ (zs : Keys). Exact c 0 t (with_keys old ks).leaf zs) (sym back) at)

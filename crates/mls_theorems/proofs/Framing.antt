@@ -57,10 +57,10 @@ pub record IsFramedButOwn (c : Crypto) (m : Member) (v : PublicMessage) : Type 0
   pub leaf : LeafNode
   pub sender : leaf_of m.public.tree (sender_leaf v.content.sender) ≡ Some leaf
   pub handshake : is_handshake v.content.body ≡ true
-  pub tag : bytes_eq v.membership_tag (content_tag m.epoch v.content m.public.context) ≡ true
+  pub tag : bytes_eq v.membership_tag (content_tag m.epoch_secret v.content m.public.context) ≡ true
   pub signed : is_content_signed c leaf.signature_key v.content m.public.context ≡ true
 
-pub framed_but_own : (c : Crypto) → Lawful c → (maker m : Member) (list : List ProposalOrRef) (path : MadePath) (change : Change) → IsGoodMember c maker → Agree maker m → maker.epoch ≡ m.epoch → IsFramedButOwn c m (sent_of c maker list path change)
+pub framed_but_own : (c : Crypto) → Lawful c → (maker m : Member) (list : List ProposalOrRef) (path : MadePath) (change : Change) → IsGoodMember c maker → Agree maker m → maker.epoch_secret ≡ m.epoch_secret → IsFramedButOwn c m (sent_of c maker list path change)
 unfolding sent_of content_of said_of content_by commit_of
 framed_but_own c laws maker m list path change good agree secret = record {
   group = same_bytes_pass _ _ (ap (λ (x : GroupContext). x.group_id) agree.context);

@@ -39,13 +39,13 @@ own_names [] = refl
 own_names (x ∷ xs) = and_from _ _ ((bytes_eq-Decides x x).1 refl) (own_names xs)
 
 abbrev pub entry_with : List ℕ → List (List ℕ) → Entry
-entry_with commit names = record { commit = commit; names = names }
+entry_with commit names = record { commit = commit; named_messages = names }
 
 entry_is : (d e : Entry) → is_same_entry d e ≡ true → d ≡ e
-entry_is d e h = let p = and_parts (bytes_eq d.commit e.commit) (are_same_bytes d.names e.names) h in ap₂ entry_with ((bytes_eq-Decides d.commit e.commit).0 p.0) (names_are d.names e.names p.1)
+entry_is d e h = let p = and_parts (bytes_eq d.commit e.commit) (are_same_bytes d.named_messages e.named_messages) h in ap₂ entry_with ((bytes_eq-Decides d.commit e.commit).0 p.0) (names_are d.named_messages e.named_messages p.1)
 
 own_entry : (d : Entry) → is_same_entry d d ≡ true
-own_entry d = and_from _ _ ((bytes_eq-Decides d.commit d.commit).1 refl) (own_names d.names)
+own_entry d = and_from _ _ ((bytes_eq-Decides d.commit d.commit).1 refl) (own_names d.named_messages)
 
 entries_are : (xs ys : List Entry) → are_same_entries xs ys ≡ true → xs ≡ ys
 unfolding are_same_entries
@@ -113,12 +113,12 @@ all_at test (y ∷ xs) (suc i) x h e = all_at test xs i x (and_parts (test y) (l
 -- all commit calls that made an entry reached one secret, and there is such a call
 pub record HasOneSecret (made : List CommitMade) (j : Journal) (e : Entry) : Type 0 where
   pub secret : List ℕ
-  pub all : (d : CommitMade) → MadeHere made j e d → d.epoch ≡ secret
+  pub all : (d : CommitMade) → MadeHere made j e d → d.epoch_secret ≡ secret
   pub which : CommitMade
   pub here : MadeHere made j e which
 
 abbrev epoch_of : CommitMade → List ℕ
-epoch_of d = d.epoch
+epoch_of d = d.epoch_secret
 
 abbrev is_here : Journal → Entry → CommitMade → Bool
 is_here j e d = is_same_journal d.journal j && is_same_entry d.entry e
@@ -143,7 +143,7 @@ one_of made j e (x ∷ xs) is h =
       secret = x;
       all = λ d m.
           let p = kept_at epoch_of (is_here j e) made m.place d m.is (is_here_at j e d m.journal m.entry) in
-          same_as_first x d.epoch xs p.0 h (ap (λ (l : List (List ℕ)). slice_get l p.0) (sym is) ∙ p.1);
+          same_as_first x d.epoch_secret xs p.0 h (ap (λ (l : List (List ℕ)). slice_get l p.0) (sym is) ∙ p.1);
       which = k.one;
       here = here_from made j e x k;
     }
@@ -171,7 +171,7 @@ at_each test (x ∷ xs) h = and_from (test x) (list_all test xs) (h 0 x refl) (a
 of_records : (made : List CommitMade) (j : Journal) (e : Entry) (xs : List (List ℕ)) → map epoch_of (filter (is_here j e) made) ≡ xs → IsMadeAt made j e → has_one_value xs ≡ true
 of_records made j e [] is h =
     let p = kept_at epoch_of (is_here j e) made h.here.place h.which h.here.is (is_here_at j e h.which h.here.journal h.here.entry) in
-    let found : slice_get [] p.0 ≡ Some h.which.epoch = ap (λ (l : List (List ℕ)). slice_get l p.0) (sym is) ∙ p.1 in
+    let found : slice_get [] p.0 ≡ Some h.which.epoch_secret = ap (λ (l : List (List ℕ)). slice_get l p.0) (sym is) ∙ p.1 in
     absurd cc
 of_records made j e (x ∷ xs) is h =
     let first = kept_from epoch_of (is_here j e) made 0 x (ap (λ (l : List (List ℕ)). slice_get l 0) is) in

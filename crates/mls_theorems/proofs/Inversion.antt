@@ -4,12 +4,12 @@ use Rattle.std.specs.List.{list_all}
 use Rattle.std.specs.Str.{bytes_eq}
 use Rattle.std.proofs.lemmas.Bool.{not-true}
 use Rattle.mls_wire.specs.Checks.{passed}
-use Rattle.mls_leaf.specs.declared.extension.Extension.{Extension}
+use Rattle.mls_wire.specs.Laws.{ok_is}
 use Rattle.mls_leaf.specs.declared.leaf.LeafNode.{LeafNode}
 use Rattle.mls_tree_model.specs.Term.{Term}
 use Rattle.mls_tree_model.specs.Sets.{has, same_bytes, is_distinct}
-use Rattle.mls_checks.specs.Checks.{replaced_checks}
-use Rattle.mls_checks.specs.declared.checks.Source.TheVariants as leaf_node_source
+use Rattle.mls_checks.specs.Checks.{replacement_checks}
+use Rattle.mls_checks.specs.declared.checks.LeafUse.TheVariants as leaf_node_source
 use Rattle.mls_tree_model.specs.Node.{source_hash}
 use Rattle.mls_tree_model.specs.Term.{leaf_of}
 use Rattle.mls_tree_model.specs.Way.{path_length}
@@ -20,11 +20,9 @@ use Rattle.mls_tree_model.specs.Merge.{merge_path, path_parent_hash}
 use Rattle.mls_tree.specs.Tree.{member_at}
 use Rattle.mls_tree.specs.Paths.{path_checks, merge_checks, merge_answer}
 use Rattle.mls_types.specs.Content.{framed_content}
-use Rattle.mls_schedule.specs.Transcript.{confirmed_hash}
 use Rattle.mls_tree_model.specs.Good.{has_distinct_keys, has_distinct_clients}
-use Rattle.mls_model.specs.PublicState.{provisional_context, confirmed_context}
-use Rattle.mls_model.specs.Proposals.{full_checks, updates, updated_leaves, removed_leaves, adds, extension_lists, extended, package_reference, is_path_required}
-use Rattle.mls_model.specs.Commit.{Edits, Change, apply_updates, apply_removes, apply_adds, apply_proposals, node_keys, cipher_counts, due_counts, apply_update_path, apply_path_if, change_of_commit}
+use Rattle.mls_model.specs.Proposals.{full_checks, updates, updated_leaves, removed_leaves, adds, extension_lists, extensions_after, package_reference, is_path_required}
+use Rattle.mls_model.specs.Commit.{Edits, Change, apply_updates, apply_removes, apply_adds, apply_proposals, node_keys, cipher_counts, due_counts, apply_update_path, apply_path_if, change_of, change_of_commit}
 use Rattle.mls_theorems.specs.EditLaws.{EditedSteps, WithPathSteps, IsBody, BodySteps}
 use Rattle.mls_wire.specs.CheckLaws.{required}
 use Rattle.mls_wire.proofs.CheckLaws.{bind_ok, then_ok, require_ok, given_ok}
@@ -75,7 +73,7 @@ pub with_path_steps : WithPathSteps
 unfolding apply_update_path merge_answer merge_checks has_distinct_keys
 with_path_steps c p committer e path t h =
     let member = bind_ok (member_at p.tree committer) _ t h in
-    let replaced = then_ok (replaced_checks c path.leaf_node member.0 leaf_node_source.Commit p.context.group_id committer) _ t member.2 in
+    let replaced = then_ok (replacement_checks c path.leaf_node member.0 leaf_node_source.Commit p.context.group_id committer) _ t member.2 in
     let count = require_ok 30 (length path.nodes == path_length 0 e.tree committer) _ t replaced.1 in
     let counts = require_ok 31 (bytes_eq (cipher_counts path) (due_counts e committer)) _ t count.1 in
     let fit = require_ok 36 (list_all c.key_ok (path.leaf_node.encryption_key ∷ node_keys path)) _ t counts.1 in
@@ -101,14 +99,13 @@ with_path_steps c p committer e path t h =
     }
 
 pub body_steps : BodySteps
-unfolding change_of_commit
+unfolding change_of_commit change_of
 body_steps c p committer used commit said signature change h =
     let edits = bind_ok (apply_proposals c p committer used) _ change h in
     let path = require_ok 64 (is_some commit.path || not (is_path_required used)) _ change edits.2 in
     let tree = bind_ok (apply_path_if c p committer edits.0 commit.path) _ change path.1 in
-    let carried : List Extension = extended p.context.extensions used in
-    let made : Change = record { edits = edits.0; tree = tree.0; provisional = provisional_context p.context carried tree.0; context = confirmed_context (provisional_context p.context carried tree.0) (confirmed_hash p.interim 1 (framed_content.spell said) signature) } in
-    let is : made ≡ change = cc in
+    let made : Change = change_of p (extensions_after p.context.extensions used) edits.0 tree.0 (framed_content.spell said) signature in
+    let is : made ≡ change = ok_is made change tree.2 in
     subst (IsBody c p committer used commit said signature) is (record {
       edits = edits.1;
       path = path.0;

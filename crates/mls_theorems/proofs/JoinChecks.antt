@@ -24,19 +24,19 @@ use Rattle.mls_schedule.specs.Epoch.{epoch_secret, confirmation_tag}
 use Rattle.mls_schedule.specs.Transcript.{interim_hash}
 use Rattle.mls_model.specs.Candidate.{Candidate}
 use Rattle.mls_model.specs.Commit.{public_with}
-use Rattle.mls_model.specs.Join.{JoinedMember, joined_tree, signer_checks, place_of, joined_keys, member_of}
+use Rattle.mls_model.specs.Join.{JoinedMember, joined_tree, signer_checks, place_of, joined_keys, enter_group, member_of}
 use Rattle.mls_model.specs.OpenedWelcome.{Opened}
 use Rattle.mls_model.specs.PublicState.{PublicState}
-use Rattle.mls_model.specs.Welcome.{unsigned_info, signed_info}
+use Rattle.mls_model.specs.Welcome.{unsigned_info, signed_info, info_of}
 use Rattle.mls_theorems.specs.CommitLaws.{HasGood}
-use Rattle.mls_theorems.specs.JoinChecks.{info_of, TreeIsTaken, SignerPasses, JoinsAt}
+use Rattle.mls_theorems.specs.JoinChecks.{TreeIsTaken, SignerPasses, JoinsAt}
 
 nodes_back : (c : Crypto) (p : PublicState) → HasGood c p p.tree → from_nodes max_leaves (to_nodes p.tree) ≡ Ok p.tree
 unfolding has_good_shape is_within
 nodes_back c p good = from_to_nodes max_leaves (height p.tree) p.tree good.perfect good.shape (leb-true _ _ good.within)
 
 pub tree_is_taken : TreeIsTaken
-unfolding joined_tree info_of signed_info unsigned_info
+unfolding joined_tree signed_info unsigned_info
 tree_is_taken c signing p tag signer good hash =
     let e1 : from_nodes max_leaves (to_nodes p.tree) ≡ Ok p.tree = nodes_back c p good in
     let e2 : bytes_eq p.context.tree_hash (tree_hash 0 p.tree) ≡ true = (bytes_eq-Decides _ _).1 hash in
@@ -44,7 +44,7 @@ tree_is_taken c signing p tag signer good hash =
     rw (e1, e2, e3) refl
 
 pub signer_passes : SignerPasses
-unfolding signer_checks info_of signed_info unsigned_info
+unfolding signer_checks signed_info unsigned_info
 signer_passes c laws k signing p tag signer x is key other =
     let n : not (bytes_eq x.signature_key k.offered.leaf_node.signature_key) ≡ true = ap not other in
     let v = verifies_signed c laws signing (codes "GroupInfoTBS") in
@@ -56,7 +56,7 @@ joins_by : (c : Crypto) (k : Candidate) (o : Opened) (t : Term) (place : ℕ × 
       member = record {
         gone = false;
         public = record { context = o.info.group_context; tree = t; interim = interim_hash o.info.group_context.confirmed_transcript_hash o.info.confirmation_tag };
-        epoch = epoch;
+        epoch_secret = epoch;
         keys = keys;
         signing = k.signing;
         kept = [];
@@ -66,11 +66,11 @@ joins_by : (c : Crypto) (k : Candidate) (o : Opened) (t : Term) (place : ℕ × 
     } in
     joined_tree c o.info ≡ Ok t → signer_checks c k o.info t ≡ Ok passed → place_of k.offered.leaf_node t ≡ Some place → joined_keys c t o.info.signer (record { leaf = place.0; own = k.leaf; above = [] }) o.path_secret ≡ Ok keys →
     bytes_eq o.info.confirmation_tag (confirmation_tag epoch o.info.group_context.confirmed_transcript_hash) ≡ true → member_of c k o ≡ Ok joined
-unfolding member_of
+unfolding member_of enter_group
 joins_by c k o t place keys e1 e2 e3 e4 e5 = rw (e1, e2, e3, e4, e5) refl
 
 pub joins_at : JoinsAt
-unfolding info_of signed_info unsigned_info public_with
+unfolding signed_info unsigned_info public_with
 joins_at c k signing change joiner tag signer path_secret place keys e1 e2 e3 e4 e5 =
     let p : PublicState = public_with change tag in
     let info : GroupInfo = info_of c signing p tag signer in

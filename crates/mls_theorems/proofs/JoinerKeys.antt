@@ -11,9 +11,9 @@ use Rattle.mls_treekem_model.specs.Join.{take_answer, secret_for, has_due}
 use Rattle.mls_treekem_model.proofs.JoinLaws.{leaf_due, take_inside}
 use Rattle.mls_treekem_model.specs.Keys.{PrivateKeys}
 use Rattle.mls_treekem_model.specs.Make.{Climb}
-use Rattle.mls_treekem_model.specs.Whole.{keys_of_path}
 use Rattle.mls_treekem_model.proofs.WholeLaws.{taken_agrees}
 use Rattle.mls_treekem_model.specs.Seeds.{path_seed}
+use Rattle.mls_treekem_model.specs.Chain.{keys_of_path}
 use Rattle.mls_model.specs.Commit.{apply_path_if}
 use Rattle.mls_model.specs.Member.{with_keys}
 use Rattle.mls_model.specs.Make.{MadePath, committed_leaf, no_path, path_secret_for}

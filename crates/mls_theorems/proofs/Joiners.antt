@@ -30,14 +30,13 @@ use Rattle.mls_model.proofs.KeyLaws.{leaf_stays}
 use Rattle.mls_model.specs.Make.{MadePath, Made, path_secret_for, path_seals}
 use Rattle.mls_model.specs.Member.{Member}
 use Rattle.mls_model.specs.OpenedWelcome.{Opened, opened_welcome}
-use Rattle.mls_model.specs.Proposals.{adds, extended}
+use Rattle.mls_model.specs.Proposals.{adds, extensions_after}
 use Rattle.mls_model.specs.Welcome.{unsigned_info, signed_info}
 use Rattle.mls_treekem_model.specs.Seeds.{seal_seed}
 use Rattle.mls_theorems.proofs.Staying.{edits_follow_committer}
 use Rattle.mls_theorems.specs.CommitLaws.{HasLeaves}
 use Rattle.mls_theorems.proofs.Clients.{clients_apart}
 use Rattle.mls_theorems.proofs.Info.{info_fits}
-use Rattle.mls_theorems.specs.JoinChecks.{info_of}
 use Rattle.mls_theorems.proofs.JoinChecks.{tree_is_taken, signer_passes, joins_at}
 use Rattle.mls_theorems.proofs.Joins.{info_made, secret_made, secrets_made, Joining, joining, next_of_made, leaves_of_made, sent_32}
 use Rattle.mls_theorems.specs.CommitCalls.{commit_of, said_of, signature_of, joiner_of, epoch_of, tag_of, made_of, Makes}
@@ -93,7 +92,7 @@ module _ (c : Crypto) (laws : Lawful c) (m : Member) (list : List ProposalOrRef)
 
   -- 70 to 75: the candidate opens it
   fits : group_info.Fits (info_made c m s.path s.change)
-  unfolding info_of signed_info unsigned_info public_with
+  unfolding signed_info unsigned_info public_with
   fits =
       let low = within_is _ j.sent.info_short in
       info_fits s.change.context (to_nodes s.change.tree) (tag_of m s.path s.change) m.keys.leaf _ next.context (sent_nodes_fit s.change.tree next.nodes) (leaf_short c m is.good) (omega arith)
@@ -107,7 +106,7 @@ module _ (c : Crypto) (laws : Lawful c) (m : Member) (list : List ProposalOrRef)
   }
 
   suite : (info_made c m s.path s.change).group_context.cipher_suite ≡ c.number
-  unfolding info_of signed_info unsigned_info public_with
+  unfolding signed_info unsigned_info public_with
   suite = next.suite
 
   opens : opened_welcome c k welcome ≡ Ok opened
@@ -153,13 +152,13 @@ module _ (c : Crypto) (laws : Lawful c) (m : Member) (list : List ProposalOrRef)
       } in
       let public : c.public k.leaf ≡ j.entry.offered.leaf_node.encryption_key = sym (ap (λ (x : KeyPackage). x.leaf_node.encryption_key) j.offered ∙ good.leaf) in
       subst (λ (e : Edits). TakesKeys c s.change.tree m.keys.leaf j.entry.leaf k.leaf (path_secret_for s.path.path m e is.seed j.entry.leaf)) (sym same)
-      (keys_taken c m (extended m.public.context.extensions s.used) s.edits is.seed s.path s.change.tree j.entry.leaf j.entry.offered.leaf_node k.leaf (path_did c m s.used s.edits is.wants_path is.seed s.path s.path_is) merges two
+      (keys_taken c m (extensions_after m.public.context.extensions s.used) s.edits is.seed s.path s.change.tree j.entry.leaf j.entry.offered.leaf_node k.leaf (path_did c m s.used s.edits is.wants_path is.seed s.path s.path_is) merges two
       (leaf_is_in s.edits.tree j.entry.leaf j.entry.offered.leaf_node j.joins.leaf).1 public j.joins.listed)
 
   -- 65, and the whole
   joined : JoinedMember
   joined = record {
-    member = record { gone = false; public = public_with s.change (tag_of m s.path s.change); epoch = epoch_secret (joiner_of m s.path s.change) (group_context.spell s.change.context); keys = keys.0; signing = k.signing; kept = []; pending = None };
+    member = record { gone = false; public = public_with s.change (tag_of m s.path s.change); epoch_secret = epoch_secret (joiner_of m s.path s.change) (group_context.spell s.change.context); keys = keys.0; signing = k.signing; kept = []; pending = None };
     info = group_info.spell (info_made c m s.path s.change);
   }
 
@@ -178,7 +177,7 @@ module _ (c : Crypto) (laws : Lawful c) (m : Member) (list : List ProposalOrRef)
       joined = joined;
       is = rw opens becomes;
       public = ap (λ (x : Made). x.pending.public) s.made_is;
-      epoch = ap (λ (x : Made). x.pending.epoch) s.made_is;
+      epoch = ap (λ (x : Made). x.pending.epoch_secret) s.made_is;
     };
     active = refl;
     apart = λ e. j.joins.other (sym (e ∙ keys_at c s.change.tree m.keys.leaf j.entry.leaf k.leaf (secret_made m s.path s.change is.seed j.entry.leaf) keys.0 keys.1));

@@ -26,14 +26,13 @@ use Rattle.mls_model.specs.Member.{KeptProposal, Member, find_proposals}
 use Rattle.mls_model.specs.OpenedWelcome.{is_none_or_32}
 use Rattle.mls_model.specs.Proposals.{adds}
 use Rattle.mls_model.specs.PublicState.{Used}
-use Rattle.mls_model.specs.Welcome.{unsigned_info, signed_info, secrets_with, welcome_message}
+use Rattle.mls_model.specs.Welcome.{unsigned_info, signed_info, secrets_with, welcome_message, info_of}
 use Rattle.mls_theorems.specs.CommitLaws.{IsJoiner, HasLeaves}
 use Rattle.mls_theorems.proofs.Inversion.{edited_steps}
 use Rattle.mls_theorems.proofs.Joining.{edits_add, adds_counted}
 use Rattle.mls_theorems.proofs.NextStates.{leaves_next}
 use Rattle.mls_theorems.proofs.CommitEntries.{body_is}
 use Rattle.mls_theorems.proofs.Entries.{HasEntry, is_among, first_entry}
-use Rattle.mls_theorems.specs.JoinChecks.{info_of}
 use Rattle.mls_theorems.specs.CommitCalls.{commit_of, said_of, signature_of, joiner_of, tag_of, made_of, Makes}
 use Rattle.mls_theorems.specs.NextStates.{IsNext}
 use Rattle.mls_theorems.proofs.Next.{is_next}
@@ -131,7 +130,6 @@ welcome_is c m list made wants_path seed s welcome w = ap (λ (x : Made). x.welc
 
 pub joining : (c : Crypto) (m : Member) (list : List ProposalOrRef) (made : Made) (is : IsMade c m list made) (s : Makes c m list is.wants_path is.seed made) (welcome : List ℕ) (k : Candidate) → made.welcome ≡ Some welcome → IsGoodCandidate c k →
     list_any (bytes_eq (key_package.spell k.offered)) (adds_in m.kept list) ≡ true → Joining c m list made is s welcome k
-unfolding info_of
 joining c m list made is s welcome k w good any =
     let joiner : List ℕ = joiner_of m s.path s.change in
     let xs : List KeyPackage = adds s.used in

@@ -4,7 +4,7 @@ use Rattle.std.proofs.Common.{◌≡◌, ℕ, Bool, not, List, [], ◌∷◌, Op
 use Rattle.std.proofs.lemmas.Slice.Eq.{bytes_eq-Decides}
 use Rattle.mls_wire.specs.Laws.{ok_is}
 use Rattle.mls_leaf.specs.declared.proposal.Proposal.{Proposal}
-use Rattle.mls_types.specs.SignedParts.{framed}
+use Rattle.mls_types.specs.SignedParts.{framed_content_of}
 use Rattle.mls_types.specs.declared.commit.ProposalOrRef.{ProposalOrRef}
 use Rattle.mls_types.specs.declared.message.MlsMessage.TheVariants as message
 use Rattle.mls_suite.specs.Crypto.{Crypto}
@@ -29,7 +29,7 @@ use Rattle.mls_model.specs.Journal.{Entry, names_in, list_in, entry_of}
 use Rattle.mls_model.specs.Lineage.{IsSameState}
 use Rattle.mls_model.specs.Make.{make, commit_call}
 use Rattle.mls_model.specs.Member.{KeptProposal, Pending, Member, kept_under, with_kept, with_epoch, with_pending, without_pending}
-use Rattle.mls_model.specs.Messages.{decode_message, reference_of, is_within_limit, message_by}
+use Rattle.mls_model.specs.Messages.{decode_message, reference_of, require_within_limit, message_by}
 use Rattle.mls_model.specs.OpenedWelcome.{Opened, opened_welcome}
 use Rattle.mls_model.specs.Proposals.{proposal_checks}
 use Rattle.mls_model.specs.Propose.{proposal_by, keep_once, make_proposal}
@@ -62,11 +62,11 @@ public_agreement c creations origin entries m n a b = agree_by m n (one_state m.
 pub secret_agreement : SecretAgreement
 secret_agreement c creations origin entries m n tag a b last =
     let same = public_agreement c creations origin entries m n a b in
-    let tags : confirmation_tag m.epoch m.public.context.confirmed_transcript_hash ≡ confirmation_tag n.epoch m.public.context.confirmed_transcript_hash =
-    a.tagged tag last ∙ sym (b.tagged tag last) ∙ ap (confirmation_tag n.epoch) (sym same.confirmed) in
-    by_one (one_or_twins m.epoch n.epoch m.public.context.confirmed_transcript_hash tags)
+    let tags : confirmation_tag m.epoch_secret m.public.context.confirmed_transcript_hash ≡ confirmation_tag n.epoch_secret m.public.context.confirmed_transcript_hash =
+    a.tagged tag last ∙ sym (b.tagged tag last) ∙ ap (confirmation_tag n.epoch_secret) (sym same.confirmed) in
+    by_one (one_or_twins m.epoch_secret n.epoch_secret m.public.context.confirmed_transcript_hash tags)
   where
-    by_one : AreOne m.epoch n.epoch ⊎ Twins m.epoch n.epoch m.public.context.confirmed_transcript_hash → AgreeOrTwins m n
+    by_one : AreOne m.epoch_secret n.epoch_secret ⊎ Twins m.epoch_secret n.epoch_secret m.public.context.confirmed_transcript_hash → AgreeOrTwins m n
     by_one (inl one) = inl (record { epoch = one.epoch; nine = one.nine })
     by_one (inr twins) = inr twins
 
@@ -149,12 +149,12 @@ more_along c creations origin entries m e p along h = let q = along.public in rw
 pub joins_here_along : JoinsHereAlong
 joins_here_along c creations origin entries maker list made k welcome joins along is =
     let a = made_along c maker list made is in
-    let e : Entry = record { commit = made.commit; names = names_in maker.kept list } in
+    let e : Entry = record { commit = made.commit; named_messages = names_in maker.kept list } in
     record {
       public = more_along c creations origin entries maker e joins.joined.member.public along (a.public ∙ ap Ok (sym joins.public));
       tagged = λ tag last.
           ap (λ (s : List ℕ). confirmation_tag s joins.joined.member.public.context.confirmed_transcript_hash) joins.epoch
-          ∙ ap (λ (p : PublicState). confirmation_tag made.pending.epoch p.context.confirmed_transcript_hash) joins.public
+          ∙ ap (λ (p : PublicState). confirmation_tag made.pending.epoch_secret p.context.confirmed_transcript_hash) joins.public
           ∙ one_tag _ tag (tag_of_message (decode_message made.commit)) a.is_tag (sym (last_more origin e entries) ∙ last);
     }
 
@@ -166,14 +166,14 @@ pending_along c m p bytes good h same =
     let list : list_in bytes ≡ h.commit.proposals = list_at bytes h.said h.commit h.tag reads h.says in
     let used : used_by_names m.keys.leaf h.commit.proposals (names_in m.kept (list_in bytes)) ≡ Ok h.used =
     ap (λ (l : List ProposalOrRef). used_by_names m.keys.leaf h.commit.proposals (names_in m.kept l)) list ∙ used_by_entry c m m.kept m.keys.leaf h.commit.proposals h.used good.kept h.uses in
-    let s = bind_ok (change_of_commit c m.public m.keys.leaf h.used h.commit (framed h.said.content) h.said.content.signature) _ _ h.next in
+    let s = bind_ok (change_of_commit c m.public m.keys.leaf h.used h.commit (framed_content_of h.said.content) h.said.content.signature) _ _ h.next in
     entry_at c m.public bytes (names_in m.kept (list_in bytes)) h.said h.commit h.tag h.used s.0 reads h.says
     (ap (λ (i : ℕ). used_by_names i h.commit.proposals (names_in m.kept (list_in bytes))) h.from ∙ used)
-    (ap (λ (i : ℕ). change_of_commit c m.public i h.used h.commit (framed h.said.content) h.said.content.signature) h.from ∙ s.1)
+    (ap (λ (i : ℕ). change_of_commit c m.public i h.used h.commit (framed_content_of h.said.content) h.said.content.signature) h.from ∙ s.1)
     ∙ s.2
 
 own_along : (c : Crypto) (creations : Creations) (origin : Origin) (entries : List Entry) (m : Member) (p : Pending) (bytes : List ℕ) → IsGoodMember c m → StandsAtJournal c creations origin entries m → IsGoodPending c m p → p.message ≡ bytes →
-    StandsAtJournal c creations origin (entry_of m bytes ∷ entries) (with_epoch m p.public p.epoch p.keys)
+    StandsAtJournal c creations origin (entry_of m bytes ∷ entries) (with_epoch m p.public p.epoch_secret p.keys)
 unfolding with_epoch entry_of
 own_along c creations origin entries m p bytes good along h same = record {
   public = more_along c creations origin entries m (entry_of m bytes) p.public along (pending_along c m p bytes good h same);
@@ -202,7 +202,7 @@ deliveries_along c creations origin entries m bytes epoch after good along h = b
 pub states_along : StatesAlong
 states_along c creations origin entries m n same along = record {
   public = along.public ∙ ap Ok same.public;
-  tagged = λ tag last. ap (λ (s : List ℕ). confirmation_tag s n.public.context.confirmed_transcript_hash) (sym same.epoch) ∙ ap (λ (p : PublicState). confirmation_tag m.epoch p.context.confirmed_transcript_hash) (sym same.public) ∙ along.tagged tag last;
+  tagged = λ tag last. ap (λ (s : List ℕ). confirmation_tag s n.public.context.confirmed_transcript_hash) (sym same.epoch) ∙ ap (λ (p : PublicState). confirmation_tag m.epoch_secret p.context.confirmed_transcript_hash) (sym same.public) ∙ along.tagged tag last;
 }
 
 pub same_itself : (m : Member) → IsSameState m m
@@ -229,7 +229,7 @@ unfolding make_proposal
 proposed_same c m said own_key x h =
     let s1 = require_ok 40 (not m.gone) _ _ h in
     let s2 = then_ok (proposal_checks c m.public m.keys.leaf said) _ _ s1.1 in
-    let s3 = then_ok (is_within_limit (message_by m (proposal_by c m said))) _ _ s2.1 in
+    let s3 = then_ok (require_within_limit (message_by m (proposal_by c m said))) _ _ s2.1 in
     once_same m _ (kept_under m.kept (reference_of (proposal_by c m said))) x s3.1
 
 committed_same : (c : Crypto) (m : Member) (list : List ProposalOrRef) (wants_path : Bool) (seed : List ℕ) (x : (List ℕ × Option (List ℕ)) × Member) → commit_call c m list wants_path seed ≡ Ok x → IsSameState m x.1

@@ -22,7 +22,7 @@ use Rattle.mls_model.specs.Invariant.{IsGoodBy, IsGoodWorld}
 use Rattle.mls_model.specs.Journal.{names_in, list_in}
 use Rattle.mls_model.specs.Lineage.{IsSameState}
 use Rattle.mls_model.specs.Member.{KeptProposal, Pending, Member, kept_under, with_kept, without_pending}
-use Rattle.mls_model.specs.Messages.{is_within_limit, reference_of}
+use Rattle.mls_model.specs.Messages.{require_within_limit, reference_of}
 use Rattle.mls_model.specs.Propose.{proposal_by, keep_once, make_proposal, propose_add, updated_leaf, propose_update, propose_remove, propose_extensions}
 use Rattle.mls_model.specs.JournalState.{Creations}
 use Rattle.mls_model.specs.EventRange.{IsSourceInRange}
@@ -43,7 +43,7 @@ pub stays : (c : Crypto) (creations : Creations) (w : World) (k : ℕ) (s : Seat
     ((p : Pending) → n.gone ≡ false → n.pending ≡ Some p → IsPendingOf w k (record { member = n; journal = s.journal }) p) → IsGoodBy c creations (with_member w k s n)
 stays c creations w k s n g at same keeps gone good pending =
     change_member c creations w k s (record { member = n; journal = s.journal }) g at same.signing (inl same) keeps
-    (λ active. reached_same c creations w.made s.journal.origin s.journal.entries s.member n same (good active) (g.members k s (record { is = at; active = sym gone ∙ active })).reached) pending
+    (λ active. reached_same c creations w.commits s.journal.origin s.journal.entries s.member n same (good active) (g.members k s (record { is = at; active = sym gone ∙ active })).reached) pending
 
 -- ---- one more proposal
 
@@ -75,15 +75,15 @@ keeps_none c creations w k s g at =
 
 pub record ProposedDid (m : Member) (x : List ℕ × Member) : Type 0 where
   pub active : m.gone ≡ false
-  pub within : is_within_limit x.0 ≡ Ok passed
+  pub within : require_within_limit x.0 ≡ Ok passed
   pub is : (m ≡ x.1) ⊎ ((k : KeptProposal) × (with_kept m k ≡ x.1))
 
-once_did : (m : Member) (k : KeptProposal) (o : Option KeptProposal) (x : List ℕ × Member) → m.gone ≡ false → is_within_limit k.message ≡ Ok passed → keep_once m k o ≡ Ok x → ProposedDid m x
+once_did : (m : Member) (k : KeptProposal) (o : Option KeptProposal) (x : List ℕ × Member) → m.gone ≡ false → require_within_limit k.message ≡ Ok passed → keep_once m k o ≡ Ok x → ProposedDid m x
 once_did m k None x active within h = subst (ProposedDid m) (ok_is _ x h) (record { active = active; within = within; is = inr (k, refl) })
 once_did m k (Some old) x active within h =
     let r = require_ok 49 (bytes_eq old.message k.message) _ _ h in
     let same : old.message ≡ k.message = (bytes_eq-Decides old.message k.message).0 r.0 in
-    subst (ProposedDid m) (ok_is _ x r.1) (record { active = active; within = ap is_within_limit same ∙ within; is = inl refl })
+    subst (ProposedDid m) (ok_is _ x r.1) (record { active = active; within = ap require_within_limit same ∙ within; is = inl refl })
 
 pub proposed_did : (c : Crypto) (m : Member) (said : Proposal) (own_key : Option (List ℕ)) (x : List ℕ × Member) → make_proposal c m said own_key ≡ Ok x → ProposedDid m x
 unfolding make_proposal

@@ -7,9 +7,9 @@ use Rattle.mls_wire.specs.Laws.{ok_is}
 use Rattle.mls_wire.specs.Reading.{◌>>=◌}
 use Rattle.mls_model.specs.Commit.{Edits, Change, apply_proposals, change_after_edits, change_of_commit}
 use Rattle.mls_model.specs.PublicState.{PublicState, Used}
-use Rattle.mls_model.specs.Make.{make}
+use Rattle.mls_model.specs.Make.{make, path_with, commit_from_change, commit_from_path, commit_from_proposals}
 use Rattle.mls_wire.proofs.CheckLaws.{require_ok, then_ok, bind_ok}
-use Rattle.mls_theorems.specs.CommitCalls.{commit_of, said_of, signature_of, joiner_of, epoch_of, tag_of, content_of, message_of, made_of, path_for, MakeDid}
+use Rattle.mls_theorems.specs.CommitCalls.{commit_of, said_of, signature_of, joiner_of, epoch_of, tag_of, content_of, message_of, made_of, MakeDid}
 
 -- with its edits, what stands behind them is the whole
 whole_change : (c : Crypto) (p : PublicState) (i : ℕ) (used : List Used) (commit : Commit) (said : FramedContent) (signature : List ℕ) (e : Edits) (change : Change) →
@@ -19,7 +19,7 @@ whole_change c p i used commit said signature e change edits rest =
     ap (λ (r : Result Edits ℕ). r >>= λ d. change_after_edits c p i used commit said signature d) edits ∙ rest
 
 pub make_did : MakeDid
-unfolding make commit_of said_of signature_of joiner_of epoch_of tag_of content_of message_of made_of path_for
+unfolding make commit_from_proposals path_with commit_from_path commit_from_change commit_of said_of signature_of joiner_of epoch_of tag_of content_of message_of made_of
 make_did c m list wants_path seed made h =
     let s1 = require_ok _ _ _ _ h in
     let s2 = require_ok _ _ _ _ s1.1 in

@@ -5,7 +5,7 @@ use Rattle.mls_leaf.specs.declared.leaf.LeafNode.{LeafNode}
 use Rattle.mls_types.specs.declared.group_context.GroupContext.{GroupContext}
 use Rattle.mls_types.specs.declared.update_path.UpdatePath.{UpdatePath}
 use Rattle.mls_suite.specs.Crypto.{Crypto}
-use Rattle.mls_checks.specs.declared.checks.Source.TheVariants as leaf_node_source
+use Rattle.mls_checks.specs.declared.checks.LeafUse.TheVariants as leaf_node_source
 use Rattle.mls_tree_model.specs.Term.{Term, width, leaf_at, leaf_of}
 use Rattle.mls_tree_model.specs.Merge.{merge_path}
 use Rattle.mls_tree_model.proofs.Equations.{leaf_of_in, leaf_of_out}

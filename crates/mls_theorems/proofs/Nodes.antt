@@ -15,7 +15,7 @@ use Rattle.mls_leaf.proofs.ParentLaws.{rises_from-cons, run_spelling-rising, Run
 use Rattle.mls_leaf.specs.declared.leaf.LeafNode.{LeafNode}
 use Rattle.mls_leaf.specs.declared.node.Node.{Node}
 use Rattle.mls_tree.specs.Tree.{max_leaves}
-use Rattle.mls_tree_model.specs.Arrays.{leaf_cell, parent_cell, in_order, before, cut, to_nodes}
+use Rattle.mls_tree_model.specs.Arrays.{leaf_cell, parent_cell, in_order, before, without_last_blanks, to_nodes}
 use Rattle.mls_tree_model.specs.Edits.{put, enter, list_leaf, grow, trim, first_blank, room_for, place_in, add, remove}
 use Rattle.mls_tree_model.proofs.Equations.{put_left, put_right, enter_left, enter_right, merge_left, merge_right, trim_full, trim_empty, add_is, remove_is}
 use Rattle.mls_tree_model.specs.Hashes.{parent_hash}
@@ -212,10 +212,10 @@ before_fit None [] h hs = tt
 before_fit None (d ∷ ds) h hs = (tt, hs)
 before_fit (Some n) ds h hs = (h, hs)
 
-cut_fit : (cs : List (Option Node)) → AllByRecursion NodeFits cs → AllByRecursion NodeFits (cut cs)
-unfolding cut
+cut_fit : (cs : List (Option Node)) → AllByRecursion NodeFits cs → AllByRecursion NodeFits (without_last_blanks cs)
+unfolding without_last_blanks
 cut_fit [] h = tt
-cut_fit (c ∷ cs) h = before_fit c (cut cs) h.0 (cut_fit cs h.1)
+cut_fit (c ∷ cs) h = before_fit c (without_last_blanks cs) h.0 (cut_fit cs h.1)
 
 pub sent_nodes_fit : (t : Term) → AllByRecursion NodeFits (in_order t) → AllByRecursion NodeFits (to_nodes t)
 unfolding to_nodes

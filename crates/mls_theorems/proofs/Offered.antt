@@ -21,7 +21,7 @@ use Rattle.mls_checks.specs.Leaf.{is_of_key_package, is_signed, is_capable}
 use Rattle.mls_model.specs.MemberInvariant.{IsGoodCandidate}
 use Rattle.mls_model.specs.Candidate.{Candidate, init_key_of, leaf_key_of, unsigned_leaf, signed_leaf, made_capabilities, offered_leaf, unsigned_package, signed_package, package_message, new_candidate}
 use Rattle.mls_treekem_model.specs.Seeds.{sign_seed}
-use Rattle.mls_model.specs.Messages.{is_within_limit}
+use Rattle.mls_model.specs.Messages.{require_within_limit}
 use Rattle.mls_theorems.proofs.Fit.{short_first, short_last, short_text, made_leaf_fits}
 use Rattle.mls_theorems.specs.GoodMembers.{CandidatesGood}
 use Rattle.mls_wire.proofs.CheckLaws.{require_ok, then_ok}
@@ -105,7 +105,7 @@ passes_all c k e1 e2 e3 e4 e5 e6 e7 = rw (e1, e2, e3, e4, e5, e6, e7) refl
 unfoldable made_by : Crypto → List ℕ → List ℕ → Candidate
 made_by c identity seed = record { offered = offered_by c identity seed; init = init_key_of c seed; leaf = leaf_key_of c seed; signing = sign_seed seed }
 
-made_good : (c : Crypto) → Lawful c → (identity seed : List ℕ) → not (bytes_eq (offered_by c identity seed).init_key (offered_by c identity seed).leaf_node.encryption_key) ≡ true → is_within_limit (package_message (offered_by c identity seed)) ≡ Ok passed →
+made_good : (c : Crypto) → Lawful c → (identity seed : List ℕ) → not (bytes_eq (offered_by c identity seed).init_key (offered_by c identity seed).leaf_node.encryption_key) ≡ true → require_within_limit (package_message (offered_by c identity seed)) ≡ Ok passed →
     IsGoodCandidate c (made_by c identity seed)
 unfolding made_by offered_by signed_package unsigned_package offered_leaf signed_leaf unsigned_leaf
 made_good c laws identity seed other low =
@@ -122,5 +122,5 @@ pub candidate_good : CandidatesGood
 unfolding new_candidate made_by offered_by
 candidate_good c laws identity seed k h =
     let s1 = require_ok 57 (not (bytes_eq (offered_by c identity seed).init_key (offered_by c identity seed).leaf_node.encryption_key)) _ _ h in
-    let s2 = then_ok (is_within_limit (package_message (offered_by c identity seed))) _ _ s1.1 in
+    let s2 = then_ok (require_within_limit (package_message (offered_by c identity seed))) _ _ s1.1 in
     subst (IsGoodCandidate c) (ok_is (made_by c identity seed) k s2.1) (made_good c laws identity seed s1.0 s2.0)

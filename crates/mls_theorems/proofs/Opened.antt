@@ -12,25 +12,23 @@ use Rattle.mls_types.specs.declared.group_context.GroupContext.{GroupContext}
 use Rattle.mls_types.specs.declared.update_path.UpdatePath.{UpdatePath}
 use Rattle.mls_types.specs.declared.commit.ProposalOrRef.{ProposalOrRef}
 use Rattle.mls_suite.specs.Crypto.{Crypto, Lawful}
-use Rattle.mls_checks.specs.Checks.{replaced_checks}
-use Rattle.mls_checks.specs.declared.checks.Source.TheVariants as leaf_node_source
+use Rattle.mls_checks.specs.Checks.{replacement_checks}
+use Rattle.mls_checks.specs.declared.checks.LeafUse.TheVariants as leaf_node_source
 use Rattle.mls_tree_model.specs.Term.{Term}
 use Rattle.mls_tree_model.specs.Way.{path_length}
 use Rattle.mls_tree.specs.Tree.{member_at}
 use Rattle.mls_tree.specs.Paths.{merge_answer}
-use Rattle.mls_treekem_model.specs.Chain.{chain}
-use Rattle.mls_treekem_model.specs.Height.{keys_on}
-use Rattle.mls_treekem_model.specs.Keys.{PrivateKeys, all_keys}
+use Rattle.mls_treekem_model.specs.Chain.{chain, keys_of_path}
+use Rattle.mls_treekem_model.specs.Keys.{PrivateKeys, all_keys, keys_on}
 use Rattle.mls_treekem_model.specs.Make.{Climb}
 use Rattle.mls_treekem_model.proofs.MakeLaws.{count_is_length}
 use Rattle.mls_treekem_model.specs.Seal.{sealed_path}
 use Rattle.mls_treekem_model.specs.Seeds.{seal_seed}
-use Rattle.mls_treekem_model.specs.Whole.{keys_of_path}
 use Rattle.mls_treekem_model.proofs.WholeLaws.{sealed_keys, opened_agrees}
 use Rattle.mls_model.specs.PublicState.{PublicState, Used, provisional_context, confirmed_context}
-use Rattle.mls_model.specs.Proposals.{extended}
+use Rattle.mls_model.specs.Proposals.{extensions_after}
 use Rattle.mls_treekem_model.specs.Seeds.{path_seed}
-use Rattle.mls_model.specs.Commit.{Edits, Change, apply_proposals, node_keys, cipher_counts, due_counts, apply_update_path, apply_path_if, change_of_commit}
+use Rattle.mls_model.specs.Commit.{Edits, Change, apply_proposals, node_keys, cipher_counts, due_counts, apply_update_path, apply_path_if, change_of, change_of_commit}
 use Rattle.mls_model.specs.Member.{Member, with_keys, follow_edits, keys_after_edits}
 use Rattle.mls_model.specs.Make.{MadePath, committed_leaf, no_path}
 use Rattle.mls_model.specs.Verdict.{open_path_secret}
@@ -48,7 +46,7 @@ abbrev good_tree : Term → Result Term ℕ
 good_tree t = Ok t
 
 pub body_did : BodyDid
-unfolding change_of_commit provisional_context confirmed_context
+unfolding change_of_commit change_of provisional_context confirmed_context
 body_did c p committer used commit said signature change h =
     let s1 = bind_ok _ _ _ h in
     let s2 = require_ok _ _ _ _ s1.2 in
@@ -60,7 +58,7 @@ body_did c p committer used commit said signature change h =
       edits_are = s1.1 ∙ ap (λ (x : Edits). good_edits x) e;
       path_there = s2.0;
       merges = sym (ap (λ (x : Edits). apply_path_if c p committer x commit.path) e) ∙ s3.1 ∙ ap (λ (x : Term). good_tree x) t;
-      provisional_is = sym (ap (λ (x : Change). x.provisional) is) ∙ ap (λ (x : Term). provisional_context p.context (extended p.context.extensions used) x) t;
+      provisional_is = sym (ap (λ (x : Change). x.provisional) is) ∙ ap (λ (x : Term). provisional_context p.context (extensions_after p.context.extensions used) x) t;
       epoch_is = sym (ap (λ (x : Change). x.context.epoch) is);
     }
 
@@ -72,7 +70,7 @@ same_edits c p committer used d e f g = ok_is d e (sym f ∙ g)
 record IsMerged (c : Crypto) (p : PublicState) (committer : ℕ) (e : Edits) (path : UpdatePath) (t : Term) : Type 0 where
   old : LeafNode
   is_old : member_at p.tree committer ≡ Ok old
-  checks : replaced_checks c path.leaf_node old leaf_node_source.Commit p.context.group_id committer ≡ Ok passed
+  checks : replacement_checks c path.leaf_node old leaf_node_source.Commit p.context.group_id committer ≡ Ok passed
   nodes : (length path.nodes == path_length 0 e.tree committer) ≡ true
   ciphers : bytes_eq (cipher_counts path) (due_counts e committer) ≡ true
   fit : list_all c.key_ok (path.leaf_node.encryption_key ∷ node_keys path) ≡ true
@@ -138,7 +136,7 @@ one_tree c maker carried e seed path t new h =
 pub receiver_climbs : ReceiverClimbs
 unfolding commit_of
 receiver_climbs c laws maker m list used e seed path change (inl new) edits is stays =
-    let carried : List Extension = extended maker.public.context.extensions used in
+    let carried : List Extension = extensions_after maker.public.context.extensions used in
     let same : change.edits ≡ e = same_edits c maker.public maker.keys.leaf used change.edits e is.edits_are edits in
     let tree : change.tree ≡ new.tree = one_tree c maker carried e seed path change.tree new (sym (ap (λ (x : Edits). apply_path_if c maker.public maker.keys.leaf x path.path) same) ∙ is.merges) in
     climbs_path c laws maker m list carried e seed path change new same (is.provisional_is ∙ ap (λ (t : Term). provisional_context maker.public.context carried t) tree)

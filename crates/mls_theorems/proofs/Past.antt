@@ -99,7 +99,7 @@ begins_along c creations (JoinedBy info) m b =
     states_along c creations (JoinedBy info) [] b.joined.member m b.same
     (subst (λ (i : List ℕ). StandsAtJournal c creations (JoinedBy i) [] b.joined.member) b.info_is (joins_along c creations b.candidate b.bytes b.joined b.is))
 
-entry_by : (e : Entry) (commit : List ℕ) (names : List (List ℕ)) → commit ≡ e.commit → names ≡ e.names → entry_with commit names ≡ e
+entry_by : (e : Entry) (commit : List ℕ) (names : List (List ℕ)) → commit ≡ e.commit → names ≡ e.named_messages → entry_with commit names ≡ e
 entry_by e commit names a b = ap (λ (x : List ℕ). entry_with x names) a ∙ ap (λ (x : List (List ℕ)). entry_with e.commit x) b
 
 steps_along : (c : Crypto) (creations : Creations) (made : List CommitMade) (origin : Origin) (es : List Entry) (before : Member) (e : Entry) (m : Member) → IsGoodMember c before → StandsAtJournal c creations origin es before →
@@ -122,7 +122,7 @@ past_along c creations made origin (e ∷ es) m r =
     steps_along c creations made origin es r.0 e m (reached_good c creations made origin es r.0 r.1) (past_along c creations made origin es r.0 r.1) r.3
 
 -- so it is all that is asked of an active member
-pub seated_by : (c : Crypto) (creations : Creations) (w : World) (s : Seat) → IsReached c creations w.made s.journal.origin s.journal.entries s.member → IsSeated c creations w s
+pub seated_by : (c : Crypto) (creations : Creations) (w : World) (s : Seat) → IsReached c creations w.commits s.journal.origin s.journal.entries s.member → IsSeated c creations w s
 seated_by c creations w s r =
-    let along = past_along c creations w.made s.journal.origin s.journal.entries s.member r in
-    record { good = reached_good c creations w.made s.journal.origin s.journal.entries s.member r; public = along.public; tagged = along.tagged; reached = r }
+    let along = past_along c creations w.commits s.journal.origin s.journal.entries s.member r in
+    record { good = reached_good c creations w.commits s.journal.origin s.journal.entries s.member r; public = along.public; tagged = along.tagged; reached = r }

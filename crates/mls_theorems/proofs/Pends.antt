@@ -1,7 +1,7 @@
 -- A commit that a good member makes is a good pending one.
 use Rattle.std.proofs.Common.{◌≡◌, ℕ, List, [], ◌∷◌, ◌++◌, Some, None, Ok, refl, sym, ap, subst, ◌∙◌, ◌⊎◌, inl, inr, Bool}
 use Rattle.mls_wire.specs.Laws.{ok_is}
-use Rattle.mls_types.specs.SignedParts.{framed}
+use Rattle.mls_types.specs.SignedParts.{framed_content_of}
 use Rattle.mls_types.specs.declared.commit.ProposalOrRef.{ProposalOrRef}
 use Rattle.mls_leaf.specs.declared.extension.Extension.{Extension}
 use Rattle.mls_leaf.specs.declared.leaf.LeafNode.{LeafNode}
@@ -10,15 +10,13 @@ use Rattle.mls_tree_model.specs.Term.{Term}
 use Rattle.mls_tree_model.specs.Way.{Step, way, is_filtered}
 use Rattle.mls_tree_model.specs.Merge.{merge_path}
 use Rattle.mls_tree.specs.Paths.{merge_answer}
-use Rattle.mls_treekem_model.specs.Chain.{node_key}
-use Rattle.mls_treekem_model.specs.Keys.{Keys, Exact, PrivateKeys, all_keys}
+use Rattle.mls_treekem_model.specs.Chain.{node_key, keys_of_path}
+use Rattle.mls_treekem_model.specs.Keys.{Keys, Exact, PrivateKeys, all_keys, HasExact}
 use Rattle.mls_treekem_model.specs.Make.{Climb, key_if, secret_above, made_keys}
 use Rattle.mls_treekem_model.proofs.MemberLaws.{exact_whole, exact_followed}
-use Rattle.mls_treekem_model.specs.Members.{HasExact}
-use Rattle.mls_treekem_model.specs.Whole.{keys_of_path}
 use Rattle.mls_treekem_model.proofs.WholeLaws.{made_exact}
 use Rattle.mls_model.specs.PublicState.{PublicState}
-use Rattle.mls_model.specs.Proposals.{extended}
+use Rattle.mls_model.specs.Proposals.{extensions_after}
 use Rattle.mls_model.specs.Candidate.{leaf_key_of, unsigned_leaf, signed_leaf}
 use Rattle.mls_treekem_model.specs.Seeds.{path_seed}
 use Rattle.mls_model.specs.Commit.{Edits, apply_path_if, public_with, next_public}
@@ -90,7 +88,7 @@ unfolding apply_path_if
 merged_alone c p i e t h = ok_is _ _ h
 
 made_keys_exact : (c : Crypto) (m : Member) (list : List ProposalOrRef) (wants_path : Bool) (seed : List ℕ) (made : Made) (k : Makes c m list wants_path seed made) → IsGoodMember c m →
-    IsNewPath c m (extended m.public.context.extensions k.used) k.edits seed k.path ⊎ (k.path ≡ no_path m k.edits) → HasExact c k.change.tree (with_keys m.keys k.path.climb.keys)
+    IsNewPath c m (extensions_after m.public.context.extensions k.used) k.edits seed k.path ⊎ (k.path ≡ no_path m k.edits) → HasExact c k.change.tree (with_keys m.keys k.path.climb.keys)
 unfolding commit_of no_path
 made_keys_exact c m list wants_path seed made k good (inl new) =
     let d : IsChange c m.public m.keys.leaf k.used (commit_of list k.path) k.change = body_did c m.public m.keys.leaf k.used (commit_of list k.path) _ _ k.change k.change_is in
@@ -107,7 +105,7 @@ made_keys_exact c m list wants_path seed made k good (inr none) =
     (subst (λ (x : MadePath). HasExact c k.edits.tree (with_keys m.keys x.climb.keys)) (sym none) (keys_alone c m k.edits good kept))
 
 next_is : (c : Crypto) (m : Member) (list : List ProposalOrRef) (wants_path : Bool) (seed : List ℕ) (made : Made) (k : Makes c m list wants_path seed made) →
-    next_public c m.public m.keys.leaf k.used (commit_of list k.path) (framed (sent_of c m list k.path k.change).content) (sent_of c m list k.path k.change).content.signature (tag_of m k.path k.change) ≡ Ok (public_with k.change (tag_of m k.path k.change))
+    next_public c m.public m.keys.leaf k.used (commit_of list k.path) (framed_content_of (sent_of c m list k.path k.change).content) (sent_of c m list k.path k.change).content.signature (tag_of m k.path k.change) ≡ Ok (public_with k.change (tag_of m k.path k.change))
 unfolding next_public sent_of content_of said_of Rattle.mls_model.specs.Messages.content_by commit_of
 next_is c m list wants_path seed made k = rw k.change_is refl
 

@@ -20,7 +20,7 @@ use Rattle.mls_leaf.specs.declared.proposal.Proposal.TheVariants as proposes
 use Rattle.mls_types.specs.Content.{sender, content, framed_content}
 use Rattle.mls_types.specs.Message.{mls_message}
 use Rattle.mls_types.specs.Signed.{signed_content}
-use Rattle.mls_types.specs.SignedParts.{signed_with}
+use Rattle.mls_types.specs.SignedParts.{with_signature}
 use Rattle.mls_types.proofs.SignedParts.{signed_content_spelled, signed_content_fits}
 use Rattle.mls_types.specs.declared.content.Content.TheVariants as says
 use Rattle.mls_types.specs.declared.content.FramedContent.{FramedContent}
@@ -35,7 +35,7 @@ use Rattle.mls_tree.specs.Tree.{member_at}
 use Rattle.mls_model.specs.MemberInvariant.{HasOwnKey, IsGoodKept, IsGoodMember}
 use Rattle.mls_model.specs.Candidate.{leaf_key_of, unsigned_leaf, signed_leaf}
 use Rattle.mls_model.specs.Member.{KeptProposal, Member, kept_under}
-use Rattle.mls_model.specs.Messages.{decode_message, is_within_limit, content_by, content_tag, message_by, reference_of}
+use Rattle.mls_model.specs.Messages.{decode_message, require_within_limit, content_by, content_tag, message_by, reference_of}
 use Rattle.mls_model.specs.Proposals.{proposal_checks}
 use Rattle.mls_model.specs.Propose.{proposal_by, keep_once, make_proposal, propose_add, updated_leaf, propose_update, propose_remove, propose_extensions}
 use Rattle.mls_theorems.proofs.Fit.{short_first, short_last, short_text, made_leaf_fits, update_source_fits}
@@ -56,11 +56,11 @@ FitsIfShort x = length (proposal.spell x) < 2 ^ 30 → proposal.Fits x
 
 said_fits : (group : List ℕ) (at leaf : ℕ) (x : Proposal) (signature : List ℕ) →
     let s : FramedContent = record { group_id = group; epoch = at; sender = by.Member leaf; authenticated_data = []; content = says.Proposal x } in
-    length group < 2 ^ 30 → at < 2 ^ 64 → leaf < 2 ^ 32 → FitsIfShort x → length (signed_content.spell (signed_with s signature [])) < 2 ^ 30 → signed_content.Fits (signed_with s signature [])
+    length group < 2 ^ 30 → at < 2 ^ 64 → leaf < 2 ^ 32 → FitsIfShort x → length (signed_content.spell (with_signature s signature [])) < 2 ^ 30 → signed_content.Fits (with_signature s signature [])
 unfolding framed_content content sender
 said_fits group at leaf x signature g a l fits lt =
     let s : FramedContent = record { group_id = group; epoch = at; sender = by.Member leaf; authenticated_data = []; content = says.Proposal x } in
-    let both : length (framed_content.spell s ++ (opaque signature ++ [])) < 2 ^ 30 = subst (λ (z : List ℕ). length z < 2 ^ 30) (signed_content_spelled (signed_with s signature [])) lt in
+    let both : length (framed_content.spell s ++ (opaque signature ++ [])) < 2 ^ 30 = subst (λ (z : List ℕ). length z < 2 ^ 30) (signed_content_spelled (with_signature s signature [])) lt in
     let t4 : List ℕ = uint w8 2 ++ proposal.spell x in
     let t3 : List ℕ = opaque [] ++ t4 in
     let t2 : List ℕ = sender.spell (by.Member leaf) ++ t3 in
@@ -72,7 +72,7 @@ said_fits group at leaf x signature g a l fits lt =
     let l4 : length t4 < 2 ^ 30 = short_last (opaque []) t4 _ l3 in
     let l5 : length (proposal.spell x) < 2 ^ 30 = short_last (uint w8 2) (proposal.spell x) _ l4 in
     let auth : length (opaque signature ++ []) < 2 ^ 30 = short_last (framed_content.spell s) (opaque signature ++ []) _ both in
-    signed_content_fits (signed_with s signature []) (g, (a, ((lit< tt, l), (lit< tt, (lit< tt, fits l5))))) (short_text signature _ (short_first (opaque signature) [] _ auth), tt)
+    signed_content_fits (with_signature s signature []) (g, (a, ((lit< tt, l), (lit< tt, (lit< tt, fits l5))))) (short_text signature _ (short_first (opaque signature) [] _ auth), tt)
 
 by_fits : (c : Crypto) (m : Member) (x : Proposal) → IsGoodMember c m → FitsIfShort x → length (signed_content.spell (proposal_by c m x)) < 2 ^ 30 → signed_content.Fits (proposal_by c m x)
 unfolding proposal_by content_by
@@ -82,7 +82,7 @@ by_fits c m x good fits lt =
 
 -- the message of a proposal
 unfoldable sent_as : Crypto → Member → Proposal → PublicMessage
-sent_as c m x = record { content = proposal_by c m x; membership_tag = content_tag m.epoch (proposal_by c m x) m.public.context }
+sent_as c m x = record { content = proposal_by c m x; membership_tag = content_tag m.epoch_secret (proposal_by c m x) m.public.context }
 
 sent_is : (c : Crypto) (m : Member) (x : Proposal) → message_by m (proposal_by c m x) ≡ mls_message.spell (message.PublicMessage (sent_as c m x))
 unfolding message_by sent_as
@@ -90,9 +90,9 @@ sent_is c m x = refl
 
 sent_fits : (c : Crypto) (m : Member) (x : Proposal) → IsGoodMember c m → FitsIfShort x → length (mls_message.spell (message.PublicMessage (sent_as c m x))) < 2 ^ 30 → mls_message.Fits (message.PublicMessage (sent_as c m x))
 unfolding sent_as
-sent_fits c m x good fits lt = message_fits (proposal_by c m x) (content_tag m.epoch (proposal_by c m x) m.public.context) (by_fits c m x good fits) lt
+sent_fits c m x good fits lt = message_fits (proposal_by c m x) (content_tag m.epoch_secret (proposal_by c m x) m.public.context) (by_fits c m x good fits) lt
 
-proposal_reads : (c : Crypto) (m : Member) (x : Proposal) → IsGoodMember c m → FitsIfShort x → is_within_limit (message_by m (proposal_by c m x)) ≡ Ok passed → ReadsBack (message_by m (proposal_by c m x)) (sent_as c m x)
+proposal_reads : (c : Crypto) (m : Member) (x : Proposal) → IsGoodMember c m → FitsIfShort x → require_within_limit (message_by m (proposal_by c m x)) ≡ Ok passed → ReadsBack (message_by m (proposal_by c m x)) (sent_as c m x)
 unfolding decode_message
 proposal_reads c m x good fits h =
     let short : length (mls_message.spell (message.PublicMessage (sent_as c m x))) ≤ input_limit = subst (λ (b : List ℕ). length b ≤ input_limit) (sent_is c m x) (within_is _ h) in

@@ -5,7 +5,7 @@ use Rattle.std.specs.Str.{bytes_eq}
 use Rattle.std.proofs.lemmas.Slice.Eq.{bytes_eq-Decides}
 use Rattle.mls_wire.specs.Checks.{passed}
 use Rattle.mls_types.specs.GroupContext.{group_context}
-use Rattle.mls_types.specs.SignedParts.{framed}
+use Rattle.mls_types.specs.SignedParts.{framed_content_of}
 use Rattle.mls_types.specs.declared.commit.Commit.{Commit}
 use Rattle.mls_types.specs.declared.commit.ProposalOrRef.{ProposalOrRef}
 use Rattle.mls_types.specs.declared.message.MlsMessage.{MlsMessage}
@@ -24,7 +24,7 @@ use Rattle.mls_model.specs.Commit.{Change, apply_proposals, change_of_commit, pu
 use Rattle.mls_model.specs.Member.{Pending, Member, find_proposals, with_keys, keys_after_edits, with_epoch, after_removal}
 use Rattle.mls_model.specs.Messages.{decode_message, sender_leaf}
 use Rattle.mls_model.specs.Make.{MadePath, Made}
-use Rattle.mls_model.specs.Verdict.{framing_checks, open_path_secret, enter_epoch, commit_verdict, content_verdict, bytes_verdict, own_pending, verdict}
+use Rattle.mls_model.specs.Verdict.{framing_checks, open_path_secret, enter_epoch_with, enter_epoch, commit_verdict, content_verdict, bytes_verdict, own_pending, verdict}
 use Rattle.mls_model.specs.Agreement.{Agree, AgreeSecret, Keeps}
 use Rattle.mls_model.specs.MemberInvariant.{IsGoodMember, IsGoodPending, IsGoodIfPending}
 use Rattle.mls_model.specs.Journal.{names_in, removes_in}
@@ -74,22 +74,22 @@ unfolding bytes_verdict
 received_by c m bytes v d f = rw (d, f) refl
 
 removed_by : (c : Crypto) (m : Member) (v : SignedContent) (commit : Commit) (tag : List ℕ) (used : List Used) (change : Change) → nat_lt m.public.context.epoch (2 ^ 64 - 1) ≡ true →
-    find_proposals m.kept (sender_leaf v.sender) commit.proposals ≡ Ok used → change_of_commit c m.public (sender_leaf v.sender) used commit (framed v) v.signature ≡ Ok change → has (removed_leaves used) m.keys.leaf ≡ true →
+    find_proposals m.kept (sender_leaf v.sender) commit.proposals ≡ Ok used → change_of_commit c m.public (sender_leaf v.sender) used commit (framed_content_of v) v.signature ≡ Ok change → has (removed_leaves used) m.keys.leaf ≡ true →
     commit_verdict c m v commit tag ≡ Ok (Removed, after_removal m)
 unfolding commit_verdict
 removed_by c m v commit tag used change e1 e2 e3 e4 = rw (e1, e2, e3, e4) refl
 
 advanced_by : (c : Crypto) (m : Member) (v : SignedContent) (commit : Commit) (tag : List ℕ) (used : List Used) (change : Change) (climb : Climb) → nat_lt m.public.context.epoch (2 ^ 64 - 1) ≡ true →
-    find_proposals m.kept (sender_leaf v.sender) commit.proposals ≡ Ok used → change_of_commit c m.public (sender_leaf v.sender) used commit (framed v) v.signature ≡ Ok change → has (removed_leaves used) m.keys.leaf ≡ false →
+    find_proposals m.kept (sender_leaf v.sender) commit.proposals ≡ Ok used → change_of_commit c m.public (sender_leaf v.sender) used commit (framed_content_of v) v.signature ≡ Ok change → has (removed_leaves used) m.keys.leaf ≡ false →
     open_path_secret c m (sender_leaf v.sender) change (keys_after_edits m commit.proposals change.edits.tree) commit.path ≡ Ok climb →
     bytes_eq tag (confirmation_tag (reached_epoch m change climb) change.context.confirmed_transcript_hash) ≡ true →
     commit_verdict c m v commit tag ≡ Ok (Advanced change.context.epoch, with_epoch m (public_with change tag) (reached_epoch m change climb) (with_keys m.keys climb.keys))
-unfolding commit_verdict enter_epoch reached_epoch
+unfolding commit_verdict enter_epoch enter_epoch_with reached_epoch
 advanced_by c m v commit tag used change climb e1 e2 e3 e4 e5 e6 = rw (e1, e2, e3, e4, e5, e6) refl
 
 -- ---- the epoch secret
 
-same_epoch : (maker m : Member) (path : MadePath) (change : Change) (climb : Climb) → maker.epoch ≡ m.epoch → climb.secret ≡ path.climb.secret → reached_epoch m change climb ≡ epoch_of maker path change
+same_epoch : (maker m : Member) (path : MadePath) (change : Change) (climb : Climb) → maker.epoch_secret ≡ m.epoch_secret → climb.secret ≡ path.climb.secret → reached_epoch m change climb ≡ epoch_of maker path change
 unfolding reached_epoch epoch_of joiner_of next_epoch_secret
 same_epoch maker m path change climb e s =
     ap₂ (λ (x y : List ℕ). epoch_secret (joiner_secret (init_secret x) y (group_context.spell change.context)) (group_context.spell change.context)) (sym e) s
@@ -158,7 +158,7 @@ follows_claim c laws maker m list wants_path seed made k secret agree here stays
           ∙ advanced_by c m (content_of c maker list s.path s.change) (commit_of list s.path) tag s.used s.change climbs.climb k.below k.uses k.change_is here climbs.is confirmed
           ∙ ap (λ (n : ℕ). into n after) next;
       public = ap (λ (x : Made). x.pending.public) s.made_is;
-      epoch = epoch ∙ ap (λ (x : Made). x.pending.epoch) s.made_is;
+      epoch = epoch ∙ ap (λ (x : Made). x.pending.epoch_secret) s.made_is;
     }
 
 pub receivers_of_staying : ReceiversOfStaying

@@ -84,25 +84,25 @@ received_as c m bytes x free h = by_case (did_take c m bytes x h).did
 one_answer : (r : Result (Effect × Member) ℕ) (x y : Effect × Member) → r ≡ Ok x → r ≡ Ok y → x ≡ y
 one_answer r x y a b = ok_is x y (sym a ∙ b)
 
-pub agree_secret : (m n : Member) → m.epoch ≡ n.epoch → AgreeSecret m n
+pub agree_secret : (m n : Member) → m.epoch_secret ≡ n.epoch_secret → AgreeSecret m n
 agree_secret m n e = record { epoch = e; nine = ap nine_secrets e }
 
 -- it reached the maker's secret
-reached_by : (c : Crypto) (maker before m : Member) (list : List ProposalOrRef) (call : Made) (bytes : List ℕ) (epoch : ℕ) (after : Member) → call.commit ≡ bytes → verdict c before bytes ≡ Ok (Advanced epoch, after) → Receives c before list call → after.epoch ≡ call.pending.epoch
+reached_by : (c : Crypto) (maker before m : Member) (list : List ProposalOrRef) (call : Made) (bytes : List ℕ) (epoch : ℕ) (after : Member) → call.commit ≡ bytes → verdict c before bytes ≡ Ok (Advanced epoch, after) → Receives c before list call → after.epoch_secret ≡ call.pending.epoch_secret
 reached_by c maker before m list call bytes epoch after same is claim = by_test (has (removes_in before.kept list) before.keys.leaf) refl
   where
     here : verdict c before call.commit ≡ Ok (Advanced epoch, after)
     here = ap (verdict c before) same ∙ is
 
-    by_test : (b : Bool) → has (removes_in before.kept list) before.keys.leaf ≡ b → after.epoch ≡ call.pending.epoch
+    by_test : (b : Bool) → has (removes_in before.kept list) before.keys.leaf ≡ b → after.epoch_secret ≡ call.pending.epoch_secret
     by_test true e = absurd (removed_is (after_removal before) after epoch (one_answer (verdict c before call.commit) _ _ (claim.removed e) here))
     by_test false e =
         let f : FollowsTo c before call = claim.follows e in
-        sym (ap (λ (x : Effect × Member). x.1.epoch) (one_answer (verdict c before call.commit) _ _ f.is here)) ∙ f.epoch
+        sym (ap (λ (x : Effect × Member). x.1.epoch_secret) (one_answer (verdict c before call.commit) _ _ f.is here)) ∙ f.epoch
 
 -- who follows another's commit reaches the secret that its maker reached
-pub followed_secret : (c : Crypto) → Lawful c → (maker before m : Member) (list : List ProposalOrRef) (call : Made) (e : Entry) → IsMade c maker list call → IsGoodMember c before → Agree maker before → maker.epoch ≡ before.epoch →
-    call.commit ≡ e.commit → names_in maker.kept list ≡ e.names → FollowedOther c before e m → m.epoch ≡ call.pending.epoch
+pub followed_secret : (c : Crypto) → Lawful c → (maker before m : Member) (list : List ProposalOrRef) (call : Made) (e : Entry) → IsMade c maker list call → IsGoodMember c before → Agree maker before → maker.epoch_secret ≡ before.epoch_secret →
+    call.commit ≡ e.commit → names_in maker.kept list ≡ e.named_messages → FollowedOther c before e m → m.epoch_secret ≡ call.pending.epoch_secret
 unfolding entry_of
 followed_secret c laws maker before m list call e is good agree secret commit names f =
     let g : IsGoodPending c maker call.pending = made_pends c maker list call is in
@@ -111,22 +111,22 @@ followed_secret c laws maker before m list call e is good agree secret commit na
     let lists : list_in e.commit ≡ list = ap list_in (sym commit) ∙ a.lists in
     let found = found_by c maker before list call e.commit (Advanced f.epoch, f.after) good g reads lists (received_as c before e.commit (Advanced f.epoch, f.after) f.free f.is) in
     let kept : names_in before.kept list ≡ names_in maker.kept list =
-    ap (names_in before.kept) (sym lists) ∙ ap (λ (x : Entry). x.names) f.entry ∙ sym names in
+    ap (names_in before.kept) (sym lists) ∙ ap (λ (x : Entry). x.named_messages) f.entry ∙ sym names in
     let keeps : Keeps before.kept list (names_in maker.kept list) = subst (Keeps before.kept list) kept found.keeps in
     let active : before.gone ≡ false = not-true before.gone (did_take c before e.commit (Advanced f.epoch, f.after) f.is).active in
     let claim : Receives c before list call = receivers_hold c laws maker before list call is good active found.apart agree (agree_secret maker before secret) keeps in
     sym f.same.epoch ∙ reached_by c maker before m list call e.commit f.epoch f.after commit f.is claim
 
-reaches : (c : Crypto) → Lawful c → (creations : Creations) (w : World) → AllRecorded c creations w → (origin : Origin) (e : Entry) (es : List Entry) (one : HasOneSecret w.made (record { origin = origin; entries = es }) e) → OneSecret c creations w origin es →
-    (before m : Member) → IsReached c creations w.made origin es before → IsReachedOver c w.made (record { origin = origin; entries = es }) before e m → m.epoch ≡ one.secret
+reaches : (c : Crypto) → Lawful c → (creations : Creations) (w : World) → AllRecorded c creations w → (origin : Origin) (e : Entry) (es : List Entry) (one : HasOneSecret w.commits (record { origin = origin; entries = es }) e) → OneSecret c creations w origin es →
+    (before m : Member) → IsReached c creations w.commits origin es before → IsReachedOver c w.commits (record { origin = origin; entries = es }) before e m → m.epoch_secret ≡ one.secret
 reaches c laws creations w all origin e es one same before m past (inl f) =
     let here = one.here in
     let d : IsRecorded c creations w one.which = all here.place one.which here.is in
-    let stood : IsReached c creations w.made origin es d.maker = subst (λ (l : Journal). IsReached c creations w.made l.origin l.entries d.maker) here.journal d.reached in
-    let agree : Agree d.maker before = public_agreement c creations origin es d.maker before (past_along c creations w.made origin es d.maker stood) (past_along c creations w.made origin es before past) in
+    let stood : IsReached c creations w.commits origin es d.maker = subst (λ (l : Journal). IsReached c creations w.commits l.origin l.entries d.maker) here.journal d.reached in
+    let agree : Agree d.maker before = public_agreement c creations origin es d.maker before (past_along c creations w.commits origin es d.maker stood) (past_along c creations w.commits origin es before past) in
     let commit : d.call.commit ≡ e.commit = sym d.commit ∙ ap (λ (x : Entry). x.commit) here.entry in
-    let names : names_in d.maker.kept d.list ≡ e.names = sym d.names ∙ ap (λ (x : Entry). x.names) here.entry in
-    followed_secret c laws d.maker before m d.list d.call e d.is_made (reached_good c creations w.made origin es before past) agree (same d.maker before stood past) commit names f
+    let names : names_in d.maker.kept d.list ≡ e.named_messages = sym d.names ∙ ap (λ (x : Entry). x.named_messages) here.entry in
+    followed_secret c laws d.maker before m d.list d.call e d.is_made (reached_good c creations w.commits origin es before past) agree (same d.maker before stood past) commit names f
     ∙ sym d.epoch ∙ one.all one.which here
 reaches c laws creations w all origin e es one same before m past (inr (inl f)) = sym f.reaches ∙ one.all f.which f.here
 reaches c laws creations w all origin e es one same before m past (inr (inr f)) = sym f.same.epoch ∙ f.joins.epoch ∙ sym f.epoch ∙ one.all f.which f.here
@@ -135,20 +135,20 @@ some_first : (f g : Member) (o : Option (Option Member)) → o ≡ Some (Some f)
 some_first f g o a b = cc
 
 -- where nothing followed yet, it is the creation's
-pub one_creation : (c : Crypto) (creations : Creations) (made : List CommitMade) (k : ℕ) (m n : Member) → IsReached c creations made (Creation k) [] m → IsReached c creations made (Creation k) [] n → m.epoch ≡ n.epoch
+pub one_creation : (c : Crypto) (creations : Creations) (made : List CommitMade) (k : ℕ) (m n : Member) → IsReached c creations made (Creation k) [] m → IsReached c creations made (Creation k) [] n → m.epoch_secret ≡ n.epoch_secret
 unfolding IsReached
 one_creation c creations made k m n a b =
-    sym a.0.same.epoch ∙ ap (λ (x : Member). x.epoch) (some_first a.0.first b.0.first (slice_get creations k) a.0.is b.0.is) ∙ b.0.same.epoch
+    sym a.0.same.epoch ∙ ap (λ (x : Member). x.epoch_secret) (some_first a.0.first b.0.first (slice_get creations k) a.0.is b.0.is) ∙ b.0.same.epoch
 
-began_secret : (c : Crypto) (creations : Creations) (w : World) (origin : Origin) → is_homemade_from w.made origin [] ≡ true → OneSecret c creations w origin []
+began_secret : (c : Crypto) (creations : Creations) (w : World) (origin : Origin) → is_homemade_from w.commits origin [] ≡ true → OneSecret c creations w origin []
 unfolding is_homemade_from
-began_secret c creations w (Creation k) home m n a b = one_creation c creations w.made k m n a b
+began_secret c creations w (Creation k) home m n a b = one_creation c creations w.commits k m n a b
 began_secret c creations w (JoinedBy info) home m n a b = absurd (true≢false (sym home))
 
 pub same_secret : SameSecret
 unfolding IsReached
 same_secret c laws creations w all origin [] home m n a b = began_secret c creations w origin home m n a b
 same_secret c laws creations w all origin (e ∷ es) home m n a b =
-    let p = homemade_parts w.made origin e es home in
+    let p = homemade_parts w.commits origin e es home in
     let same : OneSecret c creations w origin es = same_secret c laws creations w all origin es p.1 in
     reaches c laws creations w all origin e es p.0 same a.0 m a.1 a.3 ∙ sym (reaches c laws creations w all origin e es p.0 same b.0 n b.1 b.3)

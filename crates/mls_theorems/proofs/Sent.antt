@@ -6,7 +6,6 @@ use Rattle.std.proofs.lemmas.Bool.{ltb-true, leb-true, and_parts}
 use Rattle.mls_wire.specs.Checks.{passed}
 use Rattle.mls_wire.specs.Reading.{uint, opaque}
 use Rattle.mls_wire.specs.Laws.{ok_is}
-use Rattle.mls_leaf.specs.Faults.{whole}
 use Rattle.mls_leaf.specs.Leaf.{leaf_node}
 use Rattle.mls_leaf.specs.Limits.{input_limit}
 use Rattle.mls_leaf.proofs.WholeLaws.{whole_again}
@@ -20,7 +19,7 @@ use Rattle.mls_types.specs.Content.{sender, content, framed_content}
 use Rattle.mls_types.specs.Message.{mls_message}
 use Rattle.mls_types.specs.PublicMessage.{public_message}
 use Rattle.mls_types.specs.Signed.{signed_content}
-use Rattle.mls_types.specs.SignedParts.{signed_with}
+use Rattle.mls_types.specs.SignedParts.{with_signature}
 use Rattle.mls_types.proofs.SignedParts.{signed_content_spelled, signed_content_fits}
 use Rattle.mls_types.specs.declared.commit.Commit.{Commit}
 use Rattle.mls_types.specs.declared.commit.ProposalOrRef.{ProposalOrRef}
@@ -37,16 +36,17 @@ use Rattle.mls_tree_model.specs.Term.{Term, width, leaf_at, leaf_of}
 use Rattle.mls_model.specs.Candidate.{unsigned_leaf, signed_leaf}
 use Rattle.mls_model.specs.Commit.{Edits, Change}
 use Rattle.mls_model.specs.Member.{Member}
-use Rattle.mls_model.specs.Messages.{decode_message, is_within_limit, content_by, content_tag, message_by}
-use Rattle.mls_model.specs.Make.{MadePath, Made, committed_leaf, new_path, no_path}
+use Rattle.mls_model.specs.Messages.{decode_message, require_within_limit, content_by, content_tag, message_by}
+use Rattle.mls_model.specs.Make.{MadePath, Made, committed_leaf, new_path, no_path, path_with}
 use Rattle.mls_model.specs.MemberInvariant.{IsGoodMember}
 use Rattle.mls_wire.specs.CheckLaws.{required}
 use Rattle.mls_wire.proofs.CheckLaws.{then_ok, bind_ok, given_ok}
+use Rattle.mls_wire.specs.Whole.{whole}
 use Rattle.mls_model.proofs.Receipts.{either_way}
 use Rattle.mls_model.proofs.CandidateLaws.{capabilities_fit}
 use Rattle.mls_theorems.specs.CommitSpelling.{LeafFitsIfShort}
 use Rattle.mls_theorems.proofs.Fit.{short_first, short_last, short_text, made_leaf_fits, commit_source_fits, commit_fits}
-use Rattle.mls_theorems.specs.CommitCalls.{commit_of, said_of, signature_of, tag_of, content_of, message_of, made_of, path_for}
+use Rattle.mls_theorems.specs.CommitCalls.{commit_of, said_of, signature_of, tag_of, content_of, message_of, made_of}
 use Rattle.mls_theorems.specs.SentCommits.{IsNewPath, PathDid, sent_of, MadeFits}
 
 new_path_did : (c : Crypto) (m : Member) (carried : List Extension) (e : Edits) (seed : List ℕ) (path : MadePath) → new_path c m carried e seed ≡ Ok path → IsNewPath c m carried e seed path
@@ -72,7 +72,7 @@ new_path_did c m carried e seed path h =
 -- which way a test went
 
 pub path_did : PathDid
-unfolding path_for
+unfolding path_with
 path_did c m used e wants_path seed path h = either_way _ _ _ _ h (λ t f. new_path_did c m _ e seed path f) (λ t f. sym (ok_is _ _ f))
 
 -- its leaf has a spelling, if it is short
@@ -103,11 +103,11 @@ path_leaf_fits c m carried e seed path n (inr none) p is = absurd (no_some p (sy
 content_fits : (group : List ℕ) (at leaf : ℕ) (x : Commit) (signature tag : List ℕ) →
     let s : FramedContent = record { group_id = group; epoch = at; sender = by.Member leaf; authenticated_data = []; content = says.Commit x } in
     length group < 2 ^ 30 → at < 2 ^ 64 → leaf < 2 ^ 32 → (length (commit.spell x) < 2 ^ 30 → commit.Fits x) →
-    length (signed_content.spell (signed_with s signature tag)) < 2 ^ 30 → signed_content.Fits (signed_with s signature tag)
+    length (signed_content.spell (with_signature s signature tag)) < 2 ^ 30 → signed_content.Fits (with_signature s signature tag)
 unfolding framed_content content sender
 content_fits group at leaf x signature tag g a l fits lt =
     let s : FramedContent = record { group_id = group; epoch = at; sender = by.Member leaf; authenticated_data = []; content = says.Commit x } in
-    let both : length (framed_content.spell s ++ (opaque signature ++ opaque tag)) < 2 ^ 30 = subst (λ (z : List ℕ). length z < 2 ^ 30) (signed_content_spelled (signed_with s signature tag)) lt in
+    let both : length (framed_content.spell s ++ (opaque signature ++ opaque tag)) < 2 ^ 30 = subst (λ (z : List ℕ). length z < 2 ^ 30) (signed_content_spelled (with_signature s signature tag)) lt in
     let t4 : List ℕ = uint w8 3 ++ commit.spell x in
     let t3 : List ℕ = opaque [] ++ t4 in
     let t2 : List ℕ = sender.spell (by.Member leaf) ++ t3 in
@@ -119,7 +119,7 @@ content_fits group at leaf x signature tag g a l fits lt =
     let l4 : length t4 < 2 ^ 30 = short_last (opaque []) t4 _ l3 in
     let l5 : length (commit.spell x) < 2 ^ 30 = short_last (uint w8 3) (commit.spell x) _ l4 in
     let auth : length (opaque signature ++ opaque tag) < 2 ^ 30 = short_last (framed_content.spell s) (opaque signature ++ opaque tag) _ both in
-    signed_content_fits (signed_with s signature tag)
+    signed_content_fits (with_signature s signature tag)
     (g, (a, ((lit< tt, l), (lit< tt, (lit< tt, fits l5)))))
     (short_text signature _ (short_first (opaque signature) (opaque tag) _ auth), short_text tag _ (short_last (opaque signature) (opaque tag) _ auth))
 
@@ -181,15 +181,15 @@ made_content_fits c m list path change good listed leaf lt =
     content_fits m.public.context.group_id m.public.context.epoch m.keys.leaf (record { proposals = list; path = path.path }) (signature_of c m list path) (tag_of m path change)
     k.group k.epoch (leaf_short c m good) (commit_fits (record { proposals = list; path = path.path }) listed leaf) lt
 
-pub within_is : (bytes : List ℕ) → is_within_limit bytes ≡ Ok passed → length bytes ≤ input_limit
-unfolding is_within_limit
+pub within_is : (bytes : List ℕ) → require_within_limit bytes ≡ Ok passed → length bytes ≤ input_limit
+unfolding require_within_limit
 within_is bytes h = leb-true _ _ (and_parts _ _ (required _ _ _ h)).0
 
 sent_fits : (c : Crypto) (m : Member) (list : List ProposalOrRef) (path : MadePath) (change : Change) → IsGoodMember c m → AllByRecursion proposal_or_ref.Fits list → LeafFitsIfShort path.path →
     length (mls_message.spell (message.PublicMessage (sent_of c m list path change))) < 2 ^ 30 → mls_message.Fits (message.PublicMessage (sent_of c m list path change))
 unfolding sent_of
 sent_fits c m list path change good listed leaf lt =
-    message_fits (content_of c m list path change) (content_tag m.epoch (content_of c m list path change) m.public.context) (made_content_fits c m list path change good listed leaf) lt
+    message_fits (content_of c m list path change) (content_tag m.epoch_secret (content_of c m list path change) m.public.context) (made_content_fits c m list path change good listed leaf) lt
 
 pub made_fits : MadeFits
 unfolding decode_message made_of

@@ -10,7 +10,7 @@ use Rattle.mls_types.specs.Content.{sender, content, framed_content}
 use Rattle.mls_types.specs.Message.{mls_message}
 use Rattle.mls_types.specs.PublicMessage.{public_message}
 use Rattle.mls_types.specs.Signed.{signed_content}
-use Rattle.mls_types.specs.SignedParts.{signed_with}
+use Rattle.mls_types.specs.SignedParts.{with_signature}
 use Rattle.mls_types.specs.UpdatePath.{update_path}
 use Rattle.mls_types.proofs.SignedParts.{signed_content_spelled}
 use Rattle.mls_types.specs.declared.commit.Commit.{Commit}
@@ -45,11 +45,11 @@ message_short v tag lt =
 
 content_short : (group : List ℕ) (at leaf : ℕ) (x : Commit) (signature tag : List ℕ) →
     let s : FramedContent = record { group_id = group; epoch = at; sender = by.Member leaf; authenticated_data = []; content = says.Commit x } in
-    length (signed_content.spell (signed_with s signature tag)) < 2 ^ 30 → length (commit.spell x) < 2 ^ 30
+    length (signed_content.spell (with_signature s signature tag)) < 2 ^ 30 → length (commit.spell x) < 2 ^ 30
 unfolding framed_content content sender
 content_short group at leaf x signature tag lt =
     let s : FramedContent = record { group_id = group; epoch = at; sender = by.Member leaf; authenticated_data = []; content = says.Commit x } in
-    let both : length (framed_content.spell s ++ (opaque signature ++ opaque tag)) < 2 ^ 30 = subst (λ (z : List ℕ). length z < 2 ^ 30) (signed_content_spelled (signed_with s signature tag)) lt in
+    let both : length (framed_content.spell s ++ (opaque signature ++ opaque tag)) < 2 ^ 30 = subst (λ (z : List ℕ). length z < 2 ^ 30) (signed_content_spelled (with_signature s signature tag)) lt in
     let t4 : List ℕ = uint w8 3 ++ commit.spell x in
     let t3 : List ℕ = opaque [] ++ t4 in
     let t2 : List ℕ = sender.spell (by.Member leaf) ++ t3 in
@@ -80,7 +80,7 @@ listed_short : (c : Crypto) (m : Member) (list : List ProposalOrRef) (path : Mad
 unfolding sent_of commit_of
 listed_short c m list path change le =
     let short : length (mls_message.spell (message.PublicMessage (sent_of c m list path change))) ≤ input_limit = subst (λ (b : List ℕ). length b ≤ input_limit) (message_is c m list path change) le in
-    list_short (commit_of list path) (said_short c m list path change (message_short (content_of c m list path change) (content_tag m.epoch (content_of c m list path change) m.public.context) (omega (arith, short))))
+    list_short (commit_of list path) (said_short c m list path change (message_short (content_of c m list path change) (content_tag m.epoch_secret (content_of c m list path change) m.public.context) (omega (arith, short))))
 
 pub lists_fit : MadeListsFit
 lists_fit c m list wants_path seed made fits h =

@@ -35,7 +35,7 @@ use Rattle.mls_model.proofs.Found.{DidOther}
 use Rattle.mls_model.specs.Journal.{names_in, adds_in, used_of}
 use Rattle.mls_model.specs.Make.{MadePath, Made, path_secret_for, path_seals, welcome_if, make, commit_call}
 use Rattle.mls_model.specs.Member.{KeptProposal, Pending, Member, kept_under, find_proposal, find_proposals, with_epoch, with_pending}
-use Rattle.mls_model.specs.Messages.{is_within_limit, reference_of}
+use Rattle.mls_model.specs.Messages.{require_within_limit, reference_of}
 use Rattle.mls_model.specs.Proposals.{adds}
 use Rattle.mls_model.specs.PublicState.{PublicState, Used}
 use Rattle.mls_model.proofs.Receipts.{did_take}
@@ -102,13 +102,13 @@ agree_by m n e = record {
   interim = ap (λ (p : PublicState). p.interim) e;
 }
 
-secret_by : (m n : Member) → m.epoch ≡ n.epoch → AgreeSecret m n
+secret_by : (m n : Member) → m.epoch_secret ≡ n.epoch_secret → AgreeSecret m n
 secret_by m n e = record { epoch = e; nine = ap nine_secrets e }
 
 -- ---- a member that advances
 
-bytes_within : (bytes : List ℕ) → is_within_limit bytes ≡ Ok passed → IsBytes bytes
-unfolding is_within_limit
+bytes_within : (bytes : List ℕ) → require_within_limit bytes ≡ Ok passed → IsBytes bytes
+unfolding require_within_limit
 bytes_within bytes h = are_from bytes (and_parts _ _ (required _ _ _ h)).1
 
 -- it is active and at its leaf as before, in the epoch of that number
@@ -172,7 +172,7 @@ module _ (c : Crypto) (laws : Lawful c) (maker : Member) (list : List ProposalOr
   after = with_pending maker made.pending
 
   unfoldable next : Member
-  next = with_epoch after made.pending.public made.pending.epoch made.pending.keys
+  next = with_epoch after made.pending.public made.pending.epoch_secret made.pending.keys
 
   after_good : IsGoodMember c after
   unfolding after
@@ -194,7 +194,7 @@ module _ (c : Crypto) (laws : Lawful c) (maker : Member) (list : List ProposalOr
   unfolding next with_epoch
   next_public = refl
 
-  next_epoch : next.epoch ≡ made.pending.epoch
+  next_epoch : next.epoch_secret ≡ made.pending.epoch_secret
   unfolding next with_epoch
   next_epoch = refl
 
@@ -204,7 +204,7 @@ module _ (c : Crypto) (laws : Lawful c) (maker : Member) (list : List ProposalOr
 
   bytes : IsBytes made.commit
   unfolding made_of
-  bytes = bytes_within made.commit (subst (λ (b : List ℕ). is_within_limit b ≡ Ok passed) (ap (λ (x : Made). x.commit) s.made_is) s.short)
+  bytes = bytes_within made.commit (subst (λ (b : List ℕ). require_within_limit b ≡ Ok passed) (ap (λ (x : Made). x.commit) s.made_is) s.short)
 
   -- the committer follows its own commit
   own : verdict c after made.commit ≡ Ok (Advanced next.public.context.epoch, next)

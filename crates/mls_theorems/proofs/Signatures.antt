@@ -7,8 +7,8 @@ use Rattle.mls_leaf.specs.declared.leaf.LeafNode.{LeafNode}
 use Rattle.mls_leaf.specs.declared.proposal.Proposal.{Proposal}
 use Rattle.mls_leaf.specs.declared.proposal.Proposal.TheVariants as proposal
 use Rattle.mls_suite.specs.Crypto.{Crypto}
-use Rattle.mls_checks.specs.Checks.{replaced_checks}
-use Rattle.mls_checks.specs.declared.checks.Source.TheVariants as leaf_node_source
+use Rattle.mls_checks.specs.Checks.{replacement_checks}
+use Rattle.mls_checks.specs.declared.checks.LeafUse.TheVariants as leaf_node_source
 use Rattle.mls_tree_model.specs.Sets.{has}
 use Rattle.mls_tree_model.specs.Term.{leaf_of}
 use Rattle.mls_tree.specs.Tree.{member_at}
@@ -34,7 +34,7 @@ module _ (c : Crypto) (p : PublicState) where
   unfolding update_checks
   update_identity i x h =
       let old = bind_ok (member_at p.tree i) _ passed h in
-      let replaced = then_ok (replaced_checks c x old.0 leaf_node_source.Update p.context.group_id i) _ passed old.2 in
+      let replaced = then_ok (replacement_checks c x old.0 leaf_node_source.Update p.context.group_id i) _ passed old.2 in
       let r = replaced_steps c x old.0 leaf_node_source.Update p.context.group_id i replaced.0 in
       record { old = old.0; is_old = given_ok 22 (leaf_of p.tree i) old.0 old.1; signature = r.signature }
 

@@ -8,8 +8,8 @@ use Rattle.mls_leaf.specs.declared.key_package.KeyPackage.{KeyPackage}
 use Rattle.mls_leaf.specs.declared.proposal.Proposal.{Proposal}
 use Rattle.mls_leaf.specs.declared.proposal.Proposal.TheVariants as proposal
 use Rattle.mls_suite.specs.Crypto.{Crypto}
-use Rattle.mls_checks.specs.declared.checks.Source.TheVariants as leaf_node_source
-use Rattle.mls_checks.specs.Checks.{replaced_checks}
+use Rattle.mls_checks.specs.declared.checks.LeafUse.TheVariants as leaf_node_source
+use Rattle.mls_checks.specs.Checks.{replacement_checks}
 use Rattle.mls_tree_model.specs.Term.{Term, width, leaf_of}
 use Rattle.mls_tree_model.specs.Edits.{put, add, place_in, remove}
 use Rattle.mls_tree_model.proofs.Equations.{update_is}
@@ -37,7 +37,7 @@ pub update_fit : (c : Crypto) (p : PublicState) (i : ℕ) (x : LeafNode) → upd
 unfolding update_checks
 update_fit c p i x h =
     let old = bind_ok (member_at p.tree i) _ passed h in
-    let replaced = then_ok (replaced_checks c x old.0 leaf_node_source.Update p.context.group_id i) _ passed old.2 in
+    let replaced = then_ok (replacement_checks c x old.0 leaf_node_source.Update p.context.group_id i) _ passed old.2 in
     replacement_fit c p.context.group_id x old.0 leaf_node_source.Update i [] replaced.0 (and_from (c.key_ok x.encryption_key) _ (required 36 _ passed replaced.1) refl)
 
 -- ---- all proposals of a commit

@@ -32,7 +32,7 @@ use Rattle.mls_model.specs.declared.event.Source.{Source}
 use Rattle.mls_model.specs.declared.event.Source.TheVariants.{Given, Message}
 use Rattle.mls_model.specs.declared.event.WorldItem.{WorldItem}
 use Rattle.mls_model.specs.declared.event.WorldItem.TheVariants.{RefOf, Add, Remove, Extensions}
-use Rattle.mls_model.specs.Messages.{decode_message, is_within_limit, reference_of}
+use Rattle.mls_model.specs.Messages.{decode_message, require_within_limit, reference_of}
 use Rattle.mls_model.specs.EventRange.{IsSourceInRange, IsItemInRange}
 use Rattle.mls_model.specs.World.{World, bytes_of, package_in, package_of, proposal_of, item_of, items_of}
 use Rattle.mls_theorems.proofs.Entered.{are_from}
@@ -42,8 +42,8 @@ use Rattle.mls_theorems.specs.SentCommits.{ListedFitsIfShort}
 -- ---- bytes
 
 -- what is within the limit is bytes
-pub bytes_within : (bytes : List ℕ) → is_within_limit bytes ≡ Ok passed → IsBytes bytes
-unfolding is_within_limit
+pub bytes_within : (bytes : List ℕ) → require_within_limit bytes ≡ Ok passed → IsBytes bytes
+unfolding require_within_limit
 bytes_within bytes h = are_from bytes (and_parts _ _ (required _ _ _ h)).1
 
 abbrev pub AllBytes : World → Type 0

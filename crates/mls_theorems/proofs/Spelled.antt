@@ -24,7 +24,7 @@ use Rattle.mls_types.specs.Content.{content, framed_content}
 use Rattle.mls_types.specs.Message.{mls_message}
 use Rattle.mls_types.specs.PublicMessage.{public_message}
 use Rattle.mls_types.specs.Signed.{signed_content}
-use Rattle.mls_types.specs.SignedParts.{content_of_body, framed}
+use Rattle.mls_types.specs.SignedParts.{content_of_body, framed_content_of}
 use Rattle.mls_types.proofs.SignedParts.{signed_content_parts_fit}
 use Rattle.mls_types.specs.declared.commit.Commit.{Commit}
 use Rattle.mls_types.specs.declared.commit.ProposalOrRef.{ProposalOrRef}
@@ -38,7 +38,7 @@ use Rattle.mls_types.specs.declared.signed.SignedContent.{SignedContent}
 use Rattle.mls_suite.specs.Crypto.{Crypto}
 use Rattle.mls_tree_model.proofs.PathLaws.{reverse-cons}
 use Rattle.mls_model.specs.PublicState.{Used}
-use Rattle.mls_model.specs.Proposals.{update_in, add_in, extensions_in, updates, adds, extension_lists, first_list, extended}
+use Rattle.mls_model.specs.Proposals.{update_in, add_in, extensions_in, updates, adds, extension_lists, first_list, extensions_after}
 use Rattle.mls_model.specs.Commit.{node_keys}
 use Rattle.mls_model.specs.Member.{KeptProposal, Member, kept_under, find_proposal, find_proposals}
 use Rattle.mls_model.specs.MemberInvariant.{IsGoodKept}
@@ -63,7 +63,7 @@ pub content_of_message : (v : PublicMessage) → mls_message.Fits (message.Publi
 unfolding mls_message public_message
 content_of_message v f = f.1.0
 
-said_fits : (v : SignedContent) (b : SignedBody) → v.body ≡ b → framed_content.Fits (framed v) → content.Fits (content_of_body b)
+said_fits : (v : SignedContent) (b : SignedBody) → v.body ≡ b → framed_content.Fits (framed_content_of v) → content.Fits (content_of_body b)
 unfolding framed_content
 said_fits v b e f = subst (λ (x : SignedBody). content.Fits (content_of_body x)) e f.1.1.1.1
 
@@ -191,7 +191,7 @@ list_here old (proposes.Update y) lists f h = h
 list_here old (proposes.Remove i) lists f h = h
 list_here old (proposes.GroupContextExtensions list) lists f h = proposal_list list f
 
-pub extended_fits : (old : List Extension) (used : List Used) → group_extensions.Fits old → AllByRecursion UsedFits used → group_extensions.Fits (extended old used)
-unfolding extended extension_lists
+pub extended_fits : (old : List Extension) (used : List Used) → group_extensions.Fits old → AllByRecursion UsedFits used → group_extensions.Fits (extensions_after old used)
+unfolding extensions_after extension_lists
 extended_fits old [] f h = f
 extended_fits old (u ∷ us) f h = list_here old u.proposal (extension_lists us) h.0 (extended_fits old us f h.1)

@@ -26,7 +26,7 @@ use Rattle.mls_tree_model.specs.Term.{Term, width}
 use Rattle.mls_treekem_model.proofs.ListLaws.{right_are_below}
 use Rattle.mls_model.specs.MemberInvariant.{NodeFits}
 use Rattle.mls_model.specs.Commit.{Edits, Change, apply_proposals, node_keys, apply_path_if, change_of_commit}
-use Rattle.mls_model.specs.Proposals.{updates, removed_leaves, adds, extended}
+use Rattle.mls_model.specs.Proposals.{updates, removed_leaves, adds, extensions_after}
 use Rattle.mls_model.specs.PublicState.{PublicState, Used, provisional_context, confirmed_context}
 use Rattle.mls_theorems.specs.CommitLaws.{HasGood}
 use Rattle.mls_theorems.proofs.Folds.{updates_keep, removes_keep, adds_keep, all_any}
@@ -86,4 +86,4 @@ context_next c p i used commit said signature change h below used_fit fits =
     let low : p.context.epoch < 2 ^ 64 - 1 = ltb-true _ _ below in
     let hash : List ℕ = confirmed_hash p.interim 1 (framed_content.spell said) signature in
     subst group_context.Fits (sym (b.context ∙ ap (λ (x : GroupContext). confirmed_context x hash) b.provisional))
-    (next_context_fits p.context (extended p.context.extensions used) change.tree hash fits (extended_fits p.context.extensions used (context_list p.context fits) used_fit) (omega arith) (length-confirmed_hash _ _ _ _))
+    (next_context_fits p.context (extensions_after p.context.extensions used) change.tree hash fits (extended_fits p.context.extensions used (context_list p.context fits) used_fit) (omega arith) (length-confirmed_hash _ _ _ _))

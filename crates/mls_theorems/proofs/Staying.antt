@@ -12,7 +12,6 @@ use Rattle.mls_tree_model.proofs.Equations.{update_is}
 use Rattle.mls_tree_model.proofs.SetLaws.{has-append}
 use Rattle.mls_tree_model.proofs.ShapeLaws.{width-put}
 use Rattle.mls_tree.specs.Tree.{max_leaves}
-use Rattle.mls_treekem_model.specs.Follow.{TameAt, parent_above, TameEdits}
 use Rattle.mls_treekem_model.specs.Laws.{AreTwo}
 use Rattle.mls_treekem_model.proofs.OnePassLaws.{follows_refl, follows_trans, blank_above}
 use Rattle.mls_treekem_model.proofs.WholeLaws.{follows_update, follows_remove, follows_add}
@@ -24,6 +23,7 @@ use Rattle.mls_theorems.specs.EditLaws.{IsEdited}
 use Rattle.mls_theorems.specs.CommitLaws.{IsUntouched, EditsFollow, EditsFollowCommitter, IsRenewed, EditsRenew}
 use Rattle.mls_theorems.proofs.Inversion.{edited_steps}
 use Rattle.mls_tree_model.proofs.TakenLaws.{Taken, taken_at, at_taken, some_at, taken_in, taken_some, taken_put, put_taken, taken_remove, place_free, taken_add}
+use Rattle.mls_treekem_model.specs.Tame.{TameAt, parent_above, TameEdits}
 use Rattle.mls_theorems.proofs.Folds.{updates_first, adds_first, adds_none, updates_keep, removes_keep, adds_keep, all_any}
 
 -- ---- lists of numbers

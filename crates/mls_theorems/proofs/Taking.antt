@@ -33,17 +33,17 @@ unspent_at w n e at unspent = let u : not e.is_spent ≡ true = ap not unspent i
 -- what a join does, by the candidate's verdict
 record JoinIs (c : Crypto) (w : World) (n : ℕ) (source : Source) (k : Candidate) (j : JoinedMember) : Type 0 where
   reply : (step c w (Join n source)).0 ≡ HasJoined (length w.seats) j.member.public.context.epoch
-  seats : (step c w (Join n source)).1.seats ≡ w.seats ++ (record { member = j.member; journal = joiner_journal (commit_for_joiner w.made source k) j.info } ∷ [])
+  seats : (step c w (Join n source)).1.seats ≡ w.seats ++ (record { member = j.member; journal = joiner_journal (commit_for_joiner w.commits source k) j.info } ∷ [])
 
 join_is : (c : Crypto) (w : World) (n : ℕ) (source : Source) (e : Entrant) (bytes : List ℕ) (j : JoinedMember) → entrant_at w n ≡ Ok e → bytes_of w source ≡ Ok bytes → join_verdict c e.candidate bytes ≡ Ok j → JoinIs c w n source e.candidate j
 unfolding step answer join_answer
 join_is c w n source e bytes j at b h = record { reply = rw (at, b, h) refl; seats = rw (at, b, h) refl }
 
-joins : (c : Crypto) (w : World) (n : ℕ) (source : Source) (e : Entrant) (bytes : List ℕ) (d f : CommitMade) (j : JoinedMember) → slice_get w.entrants n ≡ Some e → e.is_spent ≡ false → bytes_of w source ≡ Ok bytes → join_verdict c e.candidate bytes ≡ Ok j → commit_for_joiner w.made source e.candidate ≡ Some f →
-    j.member.epoch ≡ f.epoch → JoinsGroup c w n source f
+joins : (c : Crypto) (w : World) (n : ℕ) (source : Source) (e : Entrant) (bytes : List ℕ) (d f : CommitMade) (j : JoinedMember) → slice_get w.entrants n ≡ Some e → e.is_spent ≡ false → bytes_of w source ≡ Ok bytes → join_verdict c e.candidate bytes ≡ Ok j → commit_for_joiner w.commits source e.candidate ≡ Some f →
+    j.member.epoch_secret ≡ f.epoch_secret → JoinsGroup c w n source f
 joins c w n source e bytes d f j at unspent b h is epoch =
     let v = join_is c w n source e bytes j (unspent_at w n e at unspent) b h in
-    let t : Seat = record { member = j.member; journal = joiner_journal (commit_for_joiner w.made source e.candidate) j.info } in
+    let t : Seat = record { member = j.member; journal = joiner_journal (commit_for_joiner w.commits source e.candidate) j.info } in
     record {
       after = t;
       reply = v.reply;
@@ -58,17 +58,17 @@ joins c w n source e bytes d f j at unspent b h is epoch =
 -- there is one, for which this holds
 record FoundFor (w : World) (source : Source) (k : Candidate) : Type 0 where
   which : CommitMade
-  is : commit_for_joiner w.made source k ≡ Some which
+  is : commit_for_joiner w.commits source k ≡ Some which
   place : ℕ
-  stands : slice_get w.made place ≡ Some which
+  stands : slice_get w.commits place ≡ Some which
   passes : has_source source which.welcome ≡ true
   adds : list_any (bytes_eq (key_package.spell k.offered)) which.adds ≡ true
 
-found_for : (w : World) (source : Source) (k : Candidate) (i : ℕ) (d : CommitMade) → slice_get w.made i ≡ Some d → is_for source k d ≡ true → FoundFor w source k
+found_for : (w : World) (source : Source) (k : Candidate) (i : ℕ) (d : CommitMade) → slice_get w.commits i ≡ Some d → is_for source k d ≡ true → FoundFor w source k
 unfolding commit_for_joiner
 found_for w source k i d at h =
-    let f = find_one (is_for source k) w.made i d at h in
-    let s = find_stands (is_for source k) w.made f.0 f.1 in
+    let f = find_one (is_for source k) w.commits i d at h in
+    let s = find_stands (is_for source k) w.commits f.0 f.1 in
     let p = and_parts (has_source source f.0.welcome) (list_any (bytes_eq (key_package.spell k.offered)) f.0.adds) s.2 in
     record { which = f.0; is = f.1; place = s.0; stands = s.1; passes = p.0; adds = p.1 }
 
@@ -90,7 +90,7 @@ joins_by_number c laws creations w g i n number bytes d e at welcome added =
     let one : f.which ≡ d = g.numbers f.place i number x.0 bytes f.which d f.stands at x.1 welcome in
     let to : JoinsTo c k bytes r.call = joins_by c laws creations w d k bytes r (g.candidates n e added.is) (record { number = number; is = welcome }) added.adds in
     let b : bytes_of w (Message number) ≡ Ok bytes = let h = r.number number bytes welcome in rw h refl in
-    let epoch : to.joined.member.epoch ≡ f.which.epoch = to.epoch ∙ sym r.epoch ∙ ap (λ (y : CommitMade). y.epoch) (sym one) in
+    let epoch : to.joined.member.epoch_secret ≡ f.which.epoch_secret = to.epoch ∙ sym r.epoch ∙ ap (λ (y : CommitMade). y.epoch_secret) (sym one) in
     subst (λ (y : CommitMade). JoinsGroup c w n (Message number) y) one (joins c w n (Message number) e bytes d f.which to.joined added.is added.unspent b to.is f.is epoch)
 
 -- ---- by its bytes
@@ -98,8 +98,8 @@ joins_by_number c laws creations w g i n number bytes d e at welcome added =
 abbrev answered : List ℕ → Result (List ℕ) ℕ
 answered b = Ok b
 
-given_bytes : (c : Crypto) → Lawful c → (creations : Creations) (w : World) → IsGoodBy c creations w → (i n number : ℕ) (bytes : List ℕ) (source : Source) (d : CommitMade) (e : Entrant) → slice_get w.made i ≡ Some d → d.welcome ≡ Some (number, bytes) →
-    bytes_of w source ≡ Ok bytes → has_source source d.welcome ≡ true → IsAdded w n e d → (f : CommitMade) × (commit_for_joiner w.made source e.candidate ≡ Some f) × JoinsGroup c w n source f
+given_bytes : (c : Crypto) → Lawful c → (creations : Creations) (w : World) → IsGoodBy c creations w → (i n number : ℕ) (bytes : List ℕ) (source : Source) (d : CommitMade) (e : Entrant) → slice_get w.commits i ≡ Some d → d.welcome ≡ Some (number, bytes) →
+    bytes_of w source ≡ Ok bytes → has_source source d.welcome ≡ true → IsAdded w n e d → (f : CommitMade) × (commit_for_joiner w.commits source e.candidate ≡ Some f) × JoinsGroup c w n source f
 given_bytes c laws creations w g i n number bytes source d e at welcome b h added =
     let k : Candidate = e.candidate in
     let f : FoundFor w source k = found_for w source k i d at (and_from (has_source source d.welcome) (list_any (bytes_eq (key_package.spell k.offered)) d.adds) h added.adds) in

@@ -14,7 +14,7 @@ use Rattle.mls_theorems.proofs.One.{all_both}
 
 -- a member in one state, with other proposals and another pending commit, and removed or not
 abbrev pub still : Member → Bool → List KeptProposal → Option Pending → Member
-still m gone kept pending = record { gone = gone; public = m.public; epoch = m.epoch; keys = m.keys; signing = m.signing; kept = kept; pending = pending }
+still m gone kept pending = record { gone = gone; public = m.public; epoch_secret = m.epoch_secret; keys = m.keys; signing = m.signing; kept = kept; pending = pending }
 
 pub kept_still : (c : Crypto) (m : Member) (gone : Bool) (kept : List KeptProposal) (pending : Option Pending) (k : KeptProposal) → IsGoodKept c m k → IsGoodKept c (still m gone kept pending) k
 kept_still c m gone kept pending k g = record {

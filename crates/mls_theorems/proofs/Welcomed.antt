@@ -8,7 +8,6 @@ use Rattle.mls_wire.specs.Laws.{ok_is}
 use Rattle.mls_wire.specs.Reading.{uint, header, opaque}
 use Rattle.mls_wire.specs.Combine.{optional, byte_string}
 use Rattle.mls_treekem_model.specs.Seal.{ciphertext_of}
-use Rattle.mls_leaf.specs.Faults.{whole}
 use Rattle.mls_leaf.specs.Limits.{input_limit}
 use Rattle.mls_leaf.proofs.WholeLaws.{whole_again}
 use Rattle.mls_leaf.specs.declared.key_package.KeyPackage.{KeyPackage}
@@ -27,8 +26,8 @@ use Rattle.mls_suite.specs.Labels.{encrypt_with_label, decrypt_with_label}
 use Rattle.mls_suite.proofs.LabelLaws.{opens_sealed}
 use Rattle.mls_schedule.specs.Epoch.{welcome_key, welcome_nonce}
 use Rattle.mls_model.specs.Candidate.{Candidate}
-use Rattle.mls_model.specs.Messages.{decode_message, are_bytes, is_within_limit}
-use Rattle.mls_model.specs.OpenedWelcome.{is_none_or_32, opened_secrets, Opened, opened_welcome}
+use Rattle.mls_model.specs.Messages.{decode_message, are_bytes, require_within_limit}
+use Rattle.mls_model.specs.OpenedWelcome.{is_none_or_32, check_secret_lengths, opened_secrets, Opened, open_group_info, open_for_candidate, opened_welcome}
 use Rattle.mls_model.specs.Proposals.{package_reference}
 use Rattle.mls_model.specs.Welcome.{secrets_with, entry_for, welcome_message}
 use Rattle.mls_wire.proofs.CheckLaws.{then_ok, bind_ok, given_ok}
@@ -38,9 +37,10 @@ use Rattle.mls_theorems.proofs.Fit.{short_first, short_last, short_text, cipher_
 use Rattle.mls_theorems.proofs.Sent.{within_is}
 use Rattle.mls_theorems.specs.OpenedWelcomes.{encrypted_info, welcome_of, WelcomeDid, WelcomeReads, SecretsOpen, WelcomeOpens}
 use Rattle.std.proofs.lemmas.Bool.{and_parts}
+use Rattle.mls_wire.specs.Whole.{whole}
 
-bytes_are : (bytes : List ℕ) → is_within_limit bytes ≡ Ok passed → are_bytes bytes ≡ true
-unfolding is_within_limit
+bytes_are : (bytes : List ℕ) → require_within_limit bytes ≡ Ok passed → are_bytes bytes ≡ true
+unfolding require_within_limit
 bytes_are bytes h = (and_parts _ _ (required _ _ _ h)).1
 
 pub welcome_did : WelcomeDid
@@ -139,7 +139,7 @@ entry_did c context offered secrets rnd entry h = let s = bind_ok _ _ _ h in rec
 secrets_by : (c : Crypto) (k : Candidate) (w : Welcome) (entry : EncryptedGroupSecrets) (bytes joiner : List ℕ) (path_secret : Option (List ℕ)) →
     decrypt_with_label c k.init (codes "Welcome") w.encrypted_group_info entry.encrypted_group_secrets.kem_output entry.encrypted_group_secrets.ciphertext ≡ Some bytes →
     whole group_secrets input_limit bytes ≡ Ok (secrets_of joiner path_secret) → (length joiner == 32) ≡ true → is_none_or_32 path_secret ≡ true → opened_secrets c k w entry ≡ Ok (secrets_of joiner path_secret)
-unfolding opened_secrets
+unfolding opened_secrets check_secret_lengths
 secrets_by c k w entry bytes joiner path_secret e1 e2 e3 e4 = rw (e1, e2, e3, e4) refl
 
 pub secrets_open : SecretsOpen
@@ -160,7 +160,7 @@ opened_by : (c : Crypto) (k : Candidate) (bytes : List ℕ) (w : Welcome) (entry
     decode_message bytes ≡ Ok (message.Welcome w) → (w.cipher_suite == c.number) ≡ true → find (λ (e : EncryptedGroupSecrets). bytes_eq e.new_member (package_reference k.offered)) w.secrets ≡ Some entry →
     opened_secrets c k w entry ≡ Ok (secrets_of joiner path_secret) → c.aead_open (welcome_key joiner) (welcome_nonce joiner) [] w.encrypted_group_info ≡ Some (group_info.spell info) →
     are_bytes (group_info.spell info) ≡ true → whole group_info input_limit (group_info.spell info) ≡ Ok info → (info.group_context.cipher_suite == c.number) ≡ true → opened_welcome c k bytes ≡ Ok (opened_as info joiner path_secret)
-unfolding opened_welcome
+unfolding opened_welcome open_for_candidate open_group_info
 opened_by c k bytes w entry info joiner path_secret e1 e2 e3 e4 e5 e6 e7 e8 = rw (e1, e2, e3, e4, e5, e6, e7, e8) refl
 
 pub welcome_opens : WelcomeOpens

@@ -88,13 +88,13 @@ by_info : (c : Crypto) (creations : Creations) (made : List CommitMade) (k : Can
 unfolding IsReached
 by_info c creations made k bytes j good h = (record { candidate = k; bytes = bytes; joined = j; is = h; info_is = refl; same = same_itself j.member }, joined_good c k bytes j good h)
 
-by_commit : (c : Crypto) (creations more : Creations) (w : World) (d : CommitMade) (place : ℕ) (k : Candidate) (bytes : List ℕ) (j : JoinedMember) (r : IsRecorded c creations w d) → slice_get w.made place ≡ Some d → IsGoodCandidate c k → (joins : JoinsTo c k bytes r.call) → join_verdict c k bytes ≡ Ok j →
-    IsReached c (creations ++ more) w.made d.journal.origin (d.entry ∷ d.journal.entries) j.member
+by_commit : (c : Crypto) (creations more : Creations) (w : World) (d : CommitMade) (place : ℕ) (k : Candidate) (bytes : List ℕ) (j : JoinedMember) (r : IsRecorded c creations w d) → slice_get w.commits place ≡ Some d → IsGoodCandidate c k → (joins : JoinsTo c k bytes r.call) → join_verdict c k bytes ≡ Ok j →
+    IsReached c (creations ++ more) w.commits d.journal.origin (d.entry ∷ d.journal.entries) j.member
 unfolding IsReached
 by_commit c creations more w d place k bytes j r at good joins h =
     let one : joins.joined ≡ j = one_joined (join_verdict c k bytes) joins.joined j joins.is h in (
       r.maker,
-      past_grows c creations (creations ++ more) w.made w.made (get_append creations more) (grows_none w.made) d.journal.origin d.journal.entries r.maker r.reached,
+      past_grows c creations (creations ++ more) w.commits w.commits (get_append creations more) (grows_none w.commits) d.journal.origin d.journal.entries r.maker r.reached,
       joined_good c k bytes j good h,
       inr (inr (record {
         which = d;
@@ -113,11 +113,11 @@ by_commit c creations more w d place k bytes j r at good joins h =
     )
 
 joiner_reached : (c : Crypto) → Lawful c → (creations : Creations) (w : World) → IsGoodBy c creations w → (k : Candidate) (source : Source) (bytes : List ℕ) (j : JoinedMember) → IsGoodCandidate c k → bytes_of w source ≡ Ok bytes → join_verdict c k bytes ≡ Ok j →
-    (o : Option CommitMade) → commit_for_joiner w.made source k ≡ o → IsReached c (creations ++ (None ∷ [])) w.made (joiner_journal o j.info).origin (joiner_journal o j.info).entries j.member
+    (o : Option CommitMade) → commit_for_joiner w.commits source k ≡ o → IsReached c (creations ++ (None ∷ [])) w.commits (joiner_journal o j.info).origin (joiner_journal o j.info).entries j.member
 unfolding commit_for_joiner
-joiner_reached c laws creations w g k source bytes j good b h None is = by_info c (creations ++ (None ∷ [])) w.made k bytes j good h
+joiner_reached c laws creations w g k source bytes j good b h None is = by_info c (creations ++ (None ∷ [])) w.commits k bytes j good h
 joiner_reached c laws creations w g k source bytes j good b h (Some d) is =
-    let f = find_stands (λ (x : CommitMade). has_source source x.welcome && list_any (bytes_eq (key_package.spell k.offered)) x.adds) w.made d is in
+    let f = find_stands (λ (x : CommitMade). has_source source x.welcome && list_any (bytes_eq (key_package.spell k.offered)) x.adds) w.commits d is in
     let p = and_parts (has_source source d.welcome) (list_any (bytes_eq (key_package.spell k.offered)) d.adds) f.2 in
     let r : IsRecorded c creations w d = g.records f.0 d f.1 in
     let welcome : HasWelcome d bytes = welcome_by w source bytes d d.welcome refl r.number p.0 b in
@@ -131,6 +131,6 @@ join_kept c laws creations w g n source x h =
     let s3 = bind_ok (join_verdict c s1.0.candidate s2.0) _ _ s2.2 in
     let u : IsUnspent w n s1.0 = entrant_did w n s1.0 s1.1 in
     let did : JoinedDid s1.0.candidate s3.0 = joined_did c s1.0.candidate s2.0 s3.0 s3.1 in
-    let t : Seat = record { member = s3.0.member; journal = joiner_journal (commit_for_joiner w.made source s1.0.candidate) s3.0.info } in
+    let t : Seat = record { member = s3.0.member; journal = joiner_journal (commit_for_joiner w.commits source s1.0.candidate) s3.0.info } in
     to_world c x _ s3.2
-    (creations ++ (None ∷ []), one_more c creations w n s1.0 t None g u.is u.unspent did.signing did.free (joiner_reached c laws creations w g s1.0.candidate source s2.0 s3.0 (g.candidates n s1.0 u.is) s2.1 s3.1 (commit_for_joiner w.made source s1.0.candidate) refl))
+    (creations ++ (None ∷ []), one_more c creations w n s1.0 t None g u.is u.unspent did.signing did.free (joiner_reached c laws creations w g s1.0.candidate source s2.0 s3.0 (g.candidates n s1.0 u.is) s2.1 s3.1 (commit_for_joiner w.commits source s1.0.candidate) refl))

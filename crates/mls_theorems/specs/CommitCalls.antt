@@ -1,8 +1,8 @@
 -- What a commit call that succeeded found and made.
-use Rattle.std.specs.Prelude.{◌≡◌, ℕ, ◌^◌, ◌-◌, nat_lt, Bool, true, not, ◌||◌, if◌then◌else◌, List, zip, Option, is_none, Result, Ok}
+use Rattle.std.specs.Prelude.{◌≡◌, ℕ, ◌^◌, ◌-◌, nat_lt, Bool, true, not, List, zip, Option, is_none, Ok}
 use Rattle.mls_wire.specs.Checks.{passed}
 use Rattle.mls_types.specs.GroupContext.{group_context}
-use Rattle.mls_types.specs.SignedParts.{signed_with}
+use Rattle.mls_types.specs.SignedParts.{with_signature}
 use Rattle.mls_types.specs.declared.commit.Commit.{Commit}
 use Rattle.mls_types.specs.declared.commit.ProposalOrRef.{ProposalOrRef}
 use Rattle.mls_types.specs.declared.content.Content.TheVariants as says
@@ -11,11 +11,11 @@ use Rattle.mls_types.specs.declared.signed.SignedContent.{SignedContent}
 use Rattle.mls_suite.specs.Crypto.{Crypto}
 use Rattle.mls_schedule.specs.Epoch.{init_secret, joiner_secret, epoch_secret, confirmation_tag}
 use Rattle.mls_model.specs.PublicState.{Used}
-use Rattle.mls_model.specs.Proposals.{adds, extended, is_path_required}
+use Rattle.mls_model.specs.Proposals.{adds}
 use Rattle.mls_model.specs.Commit.{Edits, Change, apply_proposals, change_of_commit, public_with}
 use Rattle.mls_model.specs.Member.{Member, find_proposals, with_keys}
-use Rattle.mls_model.specs.Messages.{is_within_limit, content_by, content_signature, message_by}
-use Rattle.mls_model.specs.Make.{MadePath, Made, new_path, no_path, welcome_if, make}
+use Rattle.mls_model.specs.Messages.{require_within_limit, content_by, content_signature, message_by}
+use Rattle.mls_model.specs.Make.{MadePath, Made, path_if_needed, welcome_if, make}
 
 -- ---- what is made of a list and a path
 
@@ -29,7 +29,8 @@ unfoldable pub signature_of : Crypto → Member → List ProposalOrRef → MadeP
 signature_of c m list path = content_signature c m.signing (said_of m list path) m.public.context
 
 unfoldable pub joiner_of : Member → MadePath → Change → List ℕ
-joiner_of m path change = joiner_secret (init_secret m.epoch) path.climb.secret (group_context.spell change.context)
+joiner_of m path change =
+    joiner_secret (init_secret m.epoch_secret) path.climb.secret (group_context.spell change.context)
 
 unfoldable pub epoch_of : Member → MadePath → Change → List ℕ
 epoch_of m path change = epoch_secret (joiner_of m path change) (group_context.spell change.context)
@@ -39,7 +40,7 @@ tag_of m path change = confirmation_tag (epoch_of m path change) change.context.
 
 -- the signed content of a commit that is made
 unfoldable pub content_of : Crypto → Member → List ProposalOrRef → MadePath → Change → SignedContent
-content_of c m list path change = signed_with (said_of m list path) (signature_of c m list path) (tag_of m path change)
+content_of c m list path change = with_signature (said_of m list path) (signature_of c m list path) (tag_of m path change)
 
 unfoldable pub message_of : Crypto → Member → List ProposalOrRef → MadePath → Change → List ℕ
 message_of c m list path change = message_by m (content_of c m list path change)
@@ -51,16 +52,10 @@ made_of c m list path change welcome = record {
   pending = record {
     message = message_of c m list path change;
     public = public_with change (tag_of m path change);
-    epoch = epoch_of m path change;
+    epoch_secret = epoch_of m path change;
     keys = with_keys m.keys path.climb.keys;
   };
 }
-
--- the path of a commit that is made, where one is wanted or required
-unfoldable pub path_for : Crypto → Member → List Used → Edits → Bool → List ℕ → Result MadePath ℕ
-path_for c m used e wants_path seed =
-    if wants_path || is_path_required used then new_path c m (extended m.public.context.extensions used) e seed
-    else Ok (no_path m e)
 
 -- ---- the steps of a call
 
@@ -74,11 +69,11 @@ pub record Makes (c : Crypto) (m : Member) (list : List ProposalOrRef) (wants_pa
   pub edits : Edits
   pub edits_are : apply_proposals c m.public m.keys.leaf used ≡ Ok edits
   pub path : MadePath
-  pub path_is : path_for c m used edits wants_path seed ≡ Ok path
+  pub path_is : path_if_needed c m edits used wants_path seed ≡ Ok path
   pub change : Change
   pub change_is : change_of_commit c m.public m.keys.leaf used (commit_of list path) (said_of m list path)
       (signature_of c m list path) ≡ Ok change
-  pub short : is_within_limit (message_of c m list path change) ≡ Ok passed
+  pub short : require_within_limit (message_of c m list path change) ≡ Ok passed
   pub welcome : Option (List ℕ)
   pub welcome_is : welcome_if c m change path (joiner_of m path change)
       (tag_of m path change) seed (zip (adds used) edits.added) ≡ Ok welcome

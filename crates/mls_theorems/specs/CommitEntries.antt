@@ -23,7 +23,7 @@ pub record FollowsEntry (c : Crypto) (m : Member) (bytes : List ℕ) (epoch : �
   pub epoch_is : epoch ≡ after.public.context.epoch
   pub tag : List ℕ
   pub is_tag : tag_of_message (decode_message bytes) ≡ Some tag
-  pub confirmed : confirmation_tag after.epoch after.public.context.confirmed_transcript_hash ≡ tag
+  pub confirmed : confirmation_tag after.epoch_secret after.public.context.confirmed_transcript_hash ≡ tag
   pub signing : after.signing ≡ m.signing
   pub leaf : after.keys.leaf ≡ m.keys.leaf
   pub active : after.gone ≡ m.gone
@@ -36,10 +36,10 @@ ReceivedAlong = (c : Crypto) (m : Member) (bytes : List ℕ) (epoch : ℕ) (afte
 
 pub record MakesEntry (c : Crypto) (m : Member) (list : List ProposalOrRef) (made : Made) : Type 0 where
   pub lists : list_in made.commit ≡ list
-  pub public : public_after c m.public (record { commit = made.commit; names = names_in m.kept list })
+  pub public : public_after c m.public (record { commit = made.commit; named_messages = names_in m.kept list })
       ≡ Ok made.pending.public
   pub is_tag : tag_of_message (decode_message made.commit)
-      ≡ Some (confirmation_tag made.pending.epoch made.pending.public.context.confirmed_transcript_hash)
+      ≡ Some (confirmation_tag made.pending.epoch_secret made.pending.public.context.confirmed_transcript_hash)
 
 abbrev pub MadeAlong : Type 0
 MadeAlong = (c : Crypto) (m : Member) (list : List ProposalOrRef) (made : Made) → IsMade c m list made →

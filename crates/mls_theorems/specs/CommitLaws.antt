@@ -15,8 +15,8 @@ use Rattle.mls_tree_model.specs.Hashes.{tree_hash}
 use Rattle.mls_tree_model.specs.Good.{IsGood, IsSound}
 use Rattle.mls_tree.specs.Tree.{max_leaves}
 use Rattle.mls_tree.specs.Rules.{rules_of}
-use Rattle.mls_treekem_model.specs.Follow.{TameEdits}
 use Rattle.mls_treekem_model.specs.Join.{AllList}
+use Rattle.mls_treekem_model.specs.Tame.{TameEdits}
 use Rattle.mls_model.specs.PublicState.{PublicState, Used}
 use Rattle.mls_model.specs.Proposals.{proposal_checks, updates, updated_leaves, removed_leaves, adds}
 use Rattle.mls_model.specs.Commit.{Edits, Change, apply_proposals, change_of_commit}

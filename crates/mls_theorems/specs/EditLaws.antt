@@ -9,8 +9,8 @@ use Rattle.mls_types.specs.Content.{framed_content}
 use Rattle.mls_types.specs.declared.commit.Commit.{Commit}
 use Rattle.mls_types.specs.declared.content.FramedContent.{FramedContent}
 use Rattle.mls_suite.specs.Crypto.{Crypto}
-use Rattle.mls_checks.specs.Checks.{replaced_checks}
-use Rattle.mls_checks.specs.declared.checks.Source.TheVariants as leaf_node_source
+use Rattle.mls_checks.specs.Checks.{replacement_checks}
+use Rattle.mls_checks.specs.declared.checks.LeafUse.TheVariants as leaf_node_source
 use Rattle.mls_tree_model.specs.Node.{source_hash}
 use Rattle.mls_tree_model.specs.Term.{Term, leaf_of}
 use Rattle.mls_tree_model.specs.Sets.{has, same_bytes, is_distinct}
@@ -19,7 +19,7 @@ use Rattle.mls_tree_model.specs.Merge.{merge_path, path_parent_hash}
 use Rattle.mls_tree_model.specs.Good.{has_distinct_keys, has_distinct_clients}
 use Rattle.mls_schedule.specs.Transcript.{confirmed_hash}
 use Rattle.mls_model.specs.PublicState.{PublicState, Used, provisional_context, confirmed_context}
-use Rattle.mls_model.specs.Proposals.{full_checks, updates, updated_leaves, removed_leaves, adds, extension_lists, extended, package_reference, is_path_required}
+use Rattle.mls_model.specs.Proposals.{full_checks, updates, updated_leaves, removed_leaves, adds, extension_lists, extensions_after, package_reference, is_path_required}
 use Rattle.mls_model.specs.Commit.{Edits, Change, apply_updates, apply_removes, apply_adds, apply_proposals, node_keys, cipher_counts, due_counts, apply_update_path, apply_path_if, change_of_commit}
 
 -- what each check of a commit's proposals found, and what each part of the edits answered
@@ -47,7 +47,7 @@ pub record IsWithPath (c : Crypto) (p : PublicState) (committer : ℕ) (e : Edit
     (t : Term) : Type 0 where
   pub old : LeafNode
   pub is_old : leaf_of p.tree committer ≡ Some old
-  pub replaced : replaced_checks c path.leaf_node old leaf_node_source.Commit p.context.group_id committer ≡ Ok passed
+  pub replaced : replacement_checks c path.leaf_node old leaf_node_source.Commit p.context.group_id committer ≡ Ok passed
   pub count : length path.nodes ≡ path_length 0 e.tree committer
   pub counts : bytes_eq (cipher_counts path) (due_counts e committer) ≡ true
   pub fit : list_all c.key_ok (path.leaf_node.encryption_key ∷ node_keys path) ≡ true
@@ -69,7 +69,7 @@ pub record IsBody (c : Crypto) (p : PublicState) (committer : ℕ) (used : List 
   pub path : (is_some commit.path || not (is_path_required used)) ≡ true
   pub path_merged : apply_path_if c p committer change.edits commit.path ≡ Ok change.tree
   pub provisional : change.provisional
-      ≡ provisional_context p.context (extended p.context.extensions used) change.tree
+      ≡ provisional_context p.context (extensions_after p.context.extensions used) change.tree
   pub context : change.context ≡ confirmed_context change.provisional
       (confirmed_hash p.interim 1 (framed_content.spell said) signature)
 

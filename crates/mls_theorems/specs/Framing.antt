@@ -13,7 +13,7 @@ use Rattle.mls_theorems.specs.SentCommits.{sent_of}
 
 -- ---- the whole
 
--- a made commit passes 42 to 48 at each other member that agrees with its maker
+-- a made commit passes `WrongGroup` (42) to `OwnUnknown` (48) at each other member that agrees with its maker
 abbrev pub MadeIsFramed : Type 0
 MadeIsFramed = (c : Crypto) → Lawful c →
     (maker m : Member) (list : List ProposalOrRef) (path : MadePath) (change : Change) (bytes : List ℕ) →

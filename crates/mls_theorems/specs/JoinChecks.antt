@@ -16,23 +16,21 @@ use Rattle.mls_model.specs.Commit.{Change, public_with}
 use Rattle.mls_model.specs.Join.{JoinedMember, joined_tree, signer_checks, place_of, joined_keys, member_of}
 use Rattle.mls_model.specs.OpenedWelcome.{Opened}
 use Rattle.mls_model.specs.PublicState.{PublicState}
-use Rattle.mls_model.specs.Welcome.{unsigned_info, signed_info}
+use Rattle.mls_model.specs.Welcome.{info_of}
 use Rattle.mls_theorems.specs.CommitLaws.{HasGood}
-
--- the GroupInfo of a public state
-unfoldable pub info_of : Crypto → List ℕ → PublicState → List ℕ → ℕ → GroupInfo
-info_of c signing p tag signer = signed_info c signing (unsigned_info p tag signer)
 
 -- ---- the tree
 
--- the checks of the tree in a GroupInfo pass (76, 20, 21, 77 and those of a whole tree), and the tree is the maker's
+-- the checks of the tree in a GroupInfo pass (`NoTree` (76), `TreeShape` (20), `TreeFull` (21), `TreeHashWrong` (77)
+-- and those of a whole tree), and the tree is the maker's
 abbrev pub TreeIsTaken : Type 0
 TreeIsTaken = (c : Crypto) (signing : List ℕ) (p : PublicState) (tag : List ℕ) (signer : ℕ) → HasGood c p p.tree →
     p.context.tree_hash ≡ tree_hash 0 p.tree → joined_tree c (info_of c signing p tag signer) ≡ Ok p.tree
 
 -- ---- the signer
 
--- the checks of the signer pass (78 and 79), where its leaf has the maker's signature key and not the candidate's
+-- the checks of the signer pass (`SignerWrong` (78) and `GroupInfoSignature` (79)), where its leaf has the maker's
+-- signature key and not the candidate's
 abbrev pub SignerPasses : Type 0
 SignerPasses = (c : Crypto) → Lawful c →
     (k : Candidate) (signing : List ℕ) (p : PublicState) (tag : List ℕ) (signer : ℕ) (x : LeafNode) →
@@ -55,7 +53,7 @@ JoinsAt = (c : Crypto) (k : Candidate) (signing : List ℕ) (change : Change) (j
       member = record {
         gone = false;
         public = p;
-        epoch = epoch;
+        epoch_secret = epoch;
         keys = keys;
         signing = k.signing;
         kept = [];

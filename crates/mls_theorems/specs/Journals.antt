@@ -29,7 +29,7 @@ pub record StandsAtJournal (c : Crypto) (creations : Creations) (origin : Origin
     (m : Member) : Type 0 where
   pub public : public_of c creations origin entries ≡ Ok m.public
   pub tagged : (tag : List ℕ) → last_tag origin entries ≡ Some tag →
-      confirmation_tag m.epoch m.public.context.confirmed_transcript_hash ≡ tag
+      confirmation_tag m.epoch_secret m.public.context.confirmed_transcript_hash ≡ tag
 
 -- members that stand at one journal agree: the public state is a function of the journal
 abbrev pub PublicAgreement : Type 0
@@ -59,7 +59,7 @@ abbrev pub JoinsHereAlong : Type 0
 JoinsHereAlong = (c : Crypto) (creations : Creations) (origin : Origin) (entries : List Entry) (maker : Member)
     (list : List ProposalOrRef) (made : Made) (k : Candidate) (welcome : List ℕ) (joins : JoinsTo c k welcome made) →
     StandsAtJournal c creations origin entries maker → IsMade c maker list made →
-    StandsAtJournal c creations origin (record { commit = made.commit; names = names_in maker.kept list } ∷ entries)
+    StandsAtJournal c creations origin (record { commit = made.commit; named_messages = names_in maker.kept list } ∷ entries)
     joins.joined.member
 
 -- a commit that a good member follows, its own or another's, leads it where the journal with the entry leads

@@ -8,9 +8,8 @@ use Rattle.mls_types.specs.declared.content.FramedContent.{FramedContent}
 use Rattle.mls_suite.specs.Crypto.{Crypto}
 use Rattle.mls_tree_model.specs.Sets.{has}
 use Rattle.mls_tree_model.specs.Term.{leaf_of}
-use Rattle.mls_treekem_model.specs.Keys.{PrivateKeys, all_keys}
+use Rattle.mls_treekem_model.specs.Keys.{PrivateKeys, all_keys, HasExact}
 use Rattle.mls_treekem_model.specs.Make.{Climb}
-use Rattle.mls_treekem_model.specs.Members.{HasExact}
 use Rattle.mls_model.specs.PublicState.{PublicState, Used}
 use Rattle.mls_model.specs.Proposals.{updates, removed_leaves}
 use Rattle.mls_model.specs.Commit.{Edits, Change, apply_proposals, change_of_commit}

@@ -8,9 +8,9 @@ use Rattle.mls_tree_model.specs.Sets.{has}
 use Rattle.mls_treekem_model.specs.Laws.{AreTwo}
 use Rattle.mls_treekem_model.specs.Lists.{ListsBelow}
 use Rattle.mls_treekem_model.specs.Make.{Climb}
-use Rattle.mls_treekem_model.specs.Members.{HasExact}
+use Rattle.mls_treekem_model.specs.Keys.{HasExact}
 use Rattle.mls_model.specs.PublicState.{PublicState, Used, provisional_context}
-use Rattle.mls_model.specs.Proposals.{extended, is_path_required}
+use Rattle.mls_model.specs.Proposals.{extensions_after, is_path_required}
 use Rattle.mls_model.specs.Commit.{Edits, Change, apply_proposals, apply_path_if, change_of_commit}
 use Rattle.mls_model.specs.Member.{Member, keys_after_edits}
 use Rattle.mls_model.specs.Make.{MadePath, no_path}
@@ -24,7 +24,7 @@ pub record IsChange (c : Crypto) (p : PublicState) (committer : ℕ) (used : Lis
   pub path_there : (is_some commit.path || not (is_path_required used)) ≡ true
   pub merges : apply_path_if c p committer change.edits commit.path ≡ Ok change.tree
   pub provisional_is : change.provisional
-      ≡ provisional_context p.context (extended p.context.extensions used) change.tree
+      ≡ provisional_context p.context (extensions_after p.context.extensions used) change.tree
   pub epoch_is : change.context.epoch ≡ p.context.epoch + 1
 
 abbrev pub BodyDid : Type 0
@@ -55,7 +55,7 @@ abbrev pub ReceiverClimbs : Type 0
 ReceiverClimbs = (c : Crypto) → Lawful c →
     (maker m : Member) (list : List ProposalOrRef) (used : List Used) (e : Edits) (seed : List ℕ) (path : MadePath)
     (change : Change) →
-    IsNewPath c maker (extended maker.public.context.extensions used) e seed path ⊎ (path ≡ no_path maker e) →
+    IsNewPath c maker (extensions_after maker.public.context.extensions used) e seed path ⊎ (path ≡ no_path maker e) →
     apply_proposals c maker.public maker.keys.leaf used ≡ Ok e →
     IsChange c maker.public maker.keys.leaf used (commit_of list path) change →
     Stays c m maker.keys.leaf list e → Climbs c m maker.keys.leaf list path change

@@ -12,7 +12,7 @@ use Rattle.mls_types.specs.declared.message.MlsMessage.TheVariants as message
 use Rattle.mls_suite.specs.Crypto.{Crypto, Lawful}
 use Rattle.mls_schedule.specs.Epoch.{welcome_key, welcome_nonce}
 use Rattle.mls_model.specs.Candidate.{Candidate}
-use Rattle.mls_model.specs.Messages.{decode_message, is_within_limit}
+use Rattle.mls_model.specs.Messages.{decode_message, require_within_limit}
 use Rattle.mls_model.specs.OpenedWelcome.{is_none_or_32, opened_secrets, opened_welcome}
 use Rattle.mls_model.specs.Proposals.{package_reference}
 use Rattle.mls_model.specs.Welcome.{secrets_with, entry_for, entries_for, welcome_message}
@@ -30,9 +30,9 @@ pub record Welcomes (c : Crypto) (info : GroupInfo) (joiner : List ℕ) (secrets
     (joiners : List (KeyPackage × ℕ)) (bytes : List ℕ) : Type 0 where
   pub entries : List EncryptedGroupSecrets
   pub entries_are : entries_for c (encrypted_info c info joiner) secrets rnd n joiners ≡ Ok entries
-  pub info_short : is_within_limit (group_info.spell info) ≡ Ok passed
+  pub info_short : require_within_limit (group_info.spell info) ≡ Ok passed
   pub bytes_are : mls_message.spell (message.Welcome (welcome_of c info joiner entries)) ≡ bytes
-  pub short : is_within_limit (mls_message.spell (message.Welcome (welcome_of c info joiner entries))) ≡ Ok passed
+  pub short : require_within_limit (mls_message.spell (message.Welcome (welcome_of c info joiner entries))) ≡ Ok passed
 
 abbrev pub WelcomeDid : Type 0
 WelcomeDid = (c : Crypto) (info : GroupInfo) (joiner : List ℕ) (secrets : ℕ → List ℕ) (rnd : ℕ → List ℕ) (n : ℕ)

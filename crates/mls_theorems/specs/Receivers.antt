@@ -21,7 +21,7 @@ pub record FollowsOther (c : Crypto) (m : Member) (made : Made) : Type 0 where
   pub after : Member
   pub is : bytes_verdict c m made.commit ≡ Ok (Advanced (m.public.context.epoch + 1), after)
   pub public : after.public ≡ made.pending.public
-  pub epoch : after.epoch ≡ made.pending.epoch
+  pub epoch : after.epoch_secret ≡ made.pending.epoch_secret
 
 -- what a receiver does with bytes that it doesn't take for its pending commit
 pub record ReceivesOther (c : Crypto) (m : Member) (list : List ProposalOrRef) (made : Made) : Type 0 where

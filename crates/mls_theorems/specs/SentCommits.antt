@@ -14,25 +14,25 @@ use Rattle.mls_types.specs.declared.commit.ProposalOrRef.{ProposalOrRef}
 use Rattle.mls_types.specs.declared.message.MlsMessage.TheVariants as message
 use Rattle.mls_types.specs.declared.public_message.PublicMessage.{PublicMessage}
 use Rattle.mls_suite.specs.Crypto.{Crypto}
-use Rattle.mls_checks.specs.Checks.{replaced_checks}
-use Rattle.mls_checks.specs.declared.checks.Source.TheVariants as replaced_for
+use Rattle.mls_checks.specs.Checks.{replacement_checks}
+use Rattle.mls_checks.specs.declared.checks.LeafUse.TheVariants as replaced_for
 use Rattle.mls_tree_model.specs.Term.{Term, leaf_of}
 use Rattle.mls_tree_model.specs.Way.{way}
 use Rattle.mls_tree.specs.Paths.{merge_answer}
 use Rattle.mls_treekem_model.specs.Make.{climb_make}
 use Rattle.mls_treekem_model.specs.Seal.{sealed_path}
 use Rattle.mls_treekem_model.specs.Seeds.{seal_seed}
-use Rattle.mls_treekem_model.specs.Whole.{keys_of_path}
 use Rattle.mls_model.specs.PublicState.{Used, provisional_context}
-use Rattle.mls_model.specs.Proposals.{extended}
+use Rattle.mls_model.specs.Proposals.{extensions_after}
 use Rattle.mls_model.specs.Candidate.{leaf_key_of}
 use Rattle.mls_treekem_model.specs.Seeds.{path_seed}
+use Rattle.mls_treekem_model.specs.Chain.{keys_of_path}
 use Rattle.mls_model.specs.Commit.{Edits, Change}
 use Rattle.mls_model.specs.Member.{Member}
 use Rattle.mls_model.specs.Messages.{decode_message, content_tag}
-use Rattle.mls_model.specs.Make.{MadePath, Made, committed_leaf, no_path, make}
+use Rattle.mls_model.specs.Make.{MadePath, Made, committed_leaf, no_path, path_if_needed, make}
 use Rattle.mls_model.specs.MemberInvariant.{IsGoodMember}
-use Rattle.mls_theorems.specs.CommitCalls.{content_of, path_for, Makes}
+use Rattle.mls_theorems.specs.CommitCalls.{content_of, Makes}
 
 -- ---- the path of a made commit
 
@@ -40,7 +40,7 @@ pub record IsNewPath (c : Crypto) (m : Member) (list : List Extension) (e : Edit
     Type 0 where
   pub old : LeafNode
   pub is_old : leaf_of m.public.tree m.keys.leaf ≡ Some old
-  pub checks : replaced_checks c
+  pub checks : replacement_checks c
       (committed_leaf c m e old seed) old replaced_for.Commit m.public.context.group_id m.keys.leaf ≡ Ok passed
   pub tree : Term
   pub tree_is : merge_answer e.tree m.keys.leaf (committed_leaf c m e old seed)
@@ -53,14 +53,14 @@ pub record IsNewPath (c : Crypto) (m : Member) (list : List Extension) (e : Edit
 
 abbrev pub PathDid : Type 0
 PathDid = (c : Crypto) (m : Member) (used : List Used) (e : Edits) (wants_path : Bool) (seed : List ℕ)
-    (path : MadePath) → path_for c m used e wants_path seed ≡ Ok path →
-    IsNewPath c m (extended m.public.context.extensions used) e seed path ⊎ (path ≡ no_path m e)
+    (path : MadePath) → path_if_needed c m e used wants_path seed ≡ Ok path →
+    IsNewPath c m (extensions_after m.public.context.extensions used) e seed path ⊎ (path ≡ no_path m e)
 
 -- what a made commit is as a message
 unfoldable pub sent_of : Crypto → Member → List ProposalOrRef → MadePath → Change → PublicMessage
 sent_of c m list path change = record {
   content = content_of c m list path change;
-  membership_tag = content_tag m.epoch (content_of c m list path change) m.public.context;
+  membership_tag = content_tag m.epoch_secret (content_of c m list path change) m.public.context;
 }
 
 -- bytes are read as a message that has a spelling

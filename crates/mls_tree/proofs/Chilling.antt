@@ -27,7 +27,7 @@ use Rattle.mls_tree.proofs.KeptHashes.{grown_perfect}
 inside : (t : Term) (i : ℕ) → is_some (leaf_of t i) ≡ true → i < width t
 inside t i some = let found = some_at (leaf_of t i) some in (taken_at t i found.0 found.1).inside
 
-pub new_tree : (t : Tree) (n : ℕ) → t.kept ≡ replicate n None → n ≡ size (term t) → t.done ≡ 0 → IsNewTree t
+pub new_tree : (t : Tree) (n : ℕ) → t.hashes ≡ replicate n None → n ≡ size (term t) → t.hash_count ≡ 0 → IsNewTree t
 new_tree t n kept all none =
     record {
       each = λ k lt. ap (λ hs. is_cold_at hs k) kept ∙ cold_none n k (omega arith);
@@ -35,14 +35,14 @@ new_tree t n kept all none =
       done = none;
     }
 
-pub warmed : (old new : Tree) → new.kept ≡ hashes_of 0 (term old) → new.done ≡ counted old.done (cold_nodes old) → Warms old new
+pub warmed : (old new : Tree) → new.hashes ≡ hashes_of 0 (term old) → new.hash_count ≡ counted old.hash_count (cold_nodes old) → Warms old new
 warmed old new all made =
     let none : cold_nodes new ≡ 0 = ap cold_places all ∙ none_cold 0 (term old) in
     let same : cold_nodes old ≡ cold_nodes old - cold_nodes new = omega arith in
     record {
-      each = λ n cold. absurd (true≢false (sym cold ∙ none_counted new.kept n none));
+      each = λ n cold. absurd (true≢false (sym cold ∙ none_counted new.hashes n none));
       fewer = omega arith;
-      done = made ∙ ap (counted old.done) same;
+      done = made ∙ ap (counted old.hash_count) same;
     }
 
 pub on_err : {A E : Type 0} (r : Result A E) (P : Type 0) → P → OnErr r P
@@ -55,9 +55,9 @@ unchanged old new same = subst (Warms old) (sym same) (record { each = λ n cold
 or_middle : (p q : Bool) (r : Bool) → r ≡ false → (p || q) ≡ (p || (r || q))
 or_middle p q r e = rw e refl
 
-module _ (t : Term) (i : ℕ) (old new : Tree) (is : term old ≡ t) (in_tree : i < width t) (shape : is_perfect (height t) t ≡ true) (same : new.done ≡ old.done) where
+module _ (t : Term) (i : ℕ) (old new : Tree) (is : term old ≡ t) (in_tree : i < width t) (shape : is_perfect (height t) t ≡ true) (same : new.hash_count ≡ old.hash_count) where
   -- an edit in place
-  pub chilled_in : new.kept ≡ drop_hashes 0 t i old.kept → size (term new) ≡ size t → length old.kept ≡ size t → Chills t i old new
+  pub chilled_in : new.hashes ≡ drop_hashes 0 t i old.hashes → size (term new) ≡ size t → length old.hashes ≡ size t → Chills t i old new
   chilled_in kept as_large long =
       record {
         each = λ n lt.
@@ -66,16 +66,16 @@ module _ (t : Term) (i : ℕ) (old new : Tree) (is : term old ≡ t) (in_tree : 
             let at : 2 * 0 + n ≡ n = omega arith in
             let outside : nat_le (size (term old)) n ≡ false = lt-leb (size (term old)) n (subst (λ u. n < size u) (sym is) less) in
             ap (λ hs. is_cold_at hs n) kept
-            ∙ cold-drop_hashes 0 t i old.kept n long (omega arith) high less
+            ∙ cold-drop_hashes 0 t i old.hashes n long (omega arith) high less
             ∙ ap (λ x. is_cold old n || has (nodes_upward 0 t i) x) at
             ∙ or_middle (is_cold old n) (has (nodes_upward 0 t i) n) _ outside;
-        whole = ap length kept ∙ length-drop_hashes 0 t i old.kept long ∙ sym as_large;
-        few = let few = few_dropped (height t) 0 t i old.kept shape long in let e : cold_nodes new ≡ cold_places (drop_hashes 0 t i old.kept) = ap cold_places kept in omega arith;
+        whole = ap length kept ∙ length-drop_hashes 0 t i old.hashes long ∙ sym as_large;
+        few = let few = few_dropped (height t) 0 t i old.hashes shape long in let e : cold_nodes new ≡ cold_places (drop_hashes 0 t i old.hashes) = ap cold_places kept in omega arith;
         done = same;
       }
 
   -- an edit of which only the first nodes are left
-  pub chilled_front : (m : ℕ) → new.kept ≡ take m (drop_hashes 0 t i old.kept) → size (term new) ≡ m → m ≤ size t → length old.kept ≡ size t → Chills t i old new
+  pub chilled_front : (m : ℕ) → new.hashes ≡ take m (drop_hashes 0 t i old.hashes) → size (term new) ≡ m → m ≤ size t → length old.hashes ≡ size t → Chills t i old new
   chilled_front m kept as_large fits long =
       record {
         each = λ n lt.
@@ -84,15 +84,15 @@ module _ (t : Term) (i : ℕ) (old new : Tree) (is : term old ≡ t) (in_tree : 
             let at : 2 * 0 + n ≡ n = omega arith in
             let outside : nat_le (size (term old)) n ≡ false = lt-leb (size (term old)) n (subst (λ u. n < size u) (sym is) less) in
             ap (λ hs. is_cold_at hs n) kept
-            ∙ cold_in_take m n (drop_hashes 0 t i old.kept) (omega arith)
-            ∙ cold-drop_hashes 0 t i old.kept n long (omega arith) high less
+            ∙ cold_in_take m n (drop_hashes 0 t i old.hashes) (omega arith)
+            ∙ cold-drop_hashes 0 t i old.hashes n long (omega arith) high less
             ∙ ap (λ x. is_cold old n || has (nodes_upward 0 t i) x) at
             ∙ or_middle (is_cold old n) (has (nodes_upward 0 t i) n) _ outside;
-        whole = ap length kept ∙ length-take-le m (drop_hashes 0 t i old.kept) (let all = length-drop_hashes 0 t i old.kept long in omega arith) ∙ sym as_large;
+        whole = ap length kept ∙ length-take-le m (drop_hashes 0 t i old.hashes) (let all = length-drop_hashes 0 t i old.hashes long in omega arith) ∙ sym as_large;
         few =
-            let few = few_dropped (height t) 0 t i old.kept shape long in
-            let cut = few_taken m (drop_hashes 0 t i old.kept) in
-            let e : cold_nodes new ≡ cold_places (take m (drop_hashes 0 t i old.kept)) = ap cold_places kept in
+            let few = few_dropped (height t) 0 t i old.hashes shape long in
+            let cut = few_taken m (drop_hashes 0 t i old.hashes) in
+            let e : cold_nodes new ≡ cold_places (take m (drop_hashes 0 t i old.hashes)) = ap cold_places kept in
             omega arith;
         done = same;
       }
@@ -116,24 +116,24 @@ or_three : (p q r : Bool) → ((p || q) || r) ≡ (p || (q || r))
 or_three true q r = refl
 or_three false q r = refl
 
-pub chilled_beside : (g : Term) (i k : ℕ) (old new : Tree) → i < width g → is_perfect (height g) g ≡ true → new.done ≡ old.done → new.kept ≡ drop_hashes 0 g i (old.kept ++ replicate k None) → size (term new) ≡ size g → length old.kept ≡ size (term old) → size g ≡ size (term old) + k → Chills g i old new
+pub chilled_beside : (g : Term) (i k : ℕ) (old new : Tree) → i < width g → is_perfect (height g) g ≡ true → new.hash_count ≡ old.hash_count → new.hashes ≡ drop_hashes 0 g i (old.hashes ++ replicate k None) → size (term new) ≡ size g → length old.hashes ≡ size (term old) → size g ≡ size (term old) + k → Chills g i old new
 chilled_beside g i k old new in_tree shape same kept as_large long grown =
-    let all : length (old.kept ++ replicate k None) ≡ size g = length-append old.kept (replicate k None) ∙ ap (λ m. length old.kept + m) (length-replicate k None) ∙ omega arith in
+    let all : length (old.hashes ++ replicate k None) ≡ size g = length-append old.hashes (replicate k None) ∙ ap (λ m. length old.hashes + m) (length-replicate k None) ∙ omega arith in
     record {
       each = λ n lt.
           let less : n < size g = omega arith in
           let high : i < 0 + width g = omega arith in
           let at : 2 * 0 + n ≡ n = omega arith in
           ap (λ hs. is_cold_at hs n) kept
-          ∙ cold-drop_hashes 0 g i (old.kept ++ replicate k None) n all (omega arith) high less
-          ∙ ap (λ x. is_cold_at (old.kept ++ replicate k None) n || has (nodes_upward 0 g i) x) at
-          ∙ ap (λ v. v || has (nodes_upward 0 g i) n) (cold_behind old.kept k (size (term old)) n long (omega arith))
+          ∙ cold-drop_hashes 0 g i (old.hashes ++ replicate k None) n all (omega arith) high less
+          ∙ ap (λ x. is_cold_at (old.hashes ++ replicate k None) n || has (nodes_upward 0 g i) x) at
+          ∙ ap (λ v. v || has (nodes_upward 0 g i) n) (cold_behind old.hashes k (size (term old)) n long (omega arith))
           ∙ or_three (is_cold old n) (nat_le (size (term old)) n) (has (nodes_upward 0 g i) n);
-      whole = ap length kept ∙ length-drop_hashes 0 g i (old.kept ++ replicate k None) all ∙ sym as_large;
+      whole = ap length kept ∙ length-drop_hashes 0 g i (old.hashes ++ replicate k None) all ∙ sym as_large;
       few =
-          let few = few_dropped (height g) 0 g i (old.kept ++ replicate k None) shape all in
-          let sum : cold_places (old.kept ++ replicate k None) ≡ cold_nodes old + k = cold-append old.kept (replicate k None) ∙ ap (λ m. cold_nodes old + m) (all_counted k) in
-          let e : cold_nodes new ≡ cold_places (drop_hashes 0 g i (old.kept ++ replicate k None)) = ap cold_places kept in
+          let few = few_dropped (height g) 0 g i (old.hashes ++ replicate k None) shape all in
+          let sum : cold_places (old.hashes ++ replicate k None) ≡ cold_nodes old + k = cold-append old.hashes (replicate k None) ∙ ap (λ m. cold_nodes old + m) (all_counted k) in
+          let e : cold_nodes new ≡ cold_places (drop_hashes 0 g i (old.hashes ++ replicate k None)) = ap cold_places kept in
           omega arith;
       done = same;
     }
@@ -141,7 +141,7 @@ chilled_beside g i k old new in_tree shape same kept as_large long grown =
 -- ---- the same, where the trees are given by their parts
 
 abbrev pub tree_of : ℕ → List (Option Node) → List (Option (List ℕ)) → ℕ → Tree
-tree_of h xs hs d = record { levels = h; listing = xs; kept = hs; done = d }
+tree_of h xs hs d = record { height = h; nodes = xs; hashes = hs; hash_count = d }
 
 perfect_here : (h : ℕ) (xs : List (Option Node)) → is_perfect (height (term_of h xs)) (term_of h xs) ≡ true
 perfect_here h xs = subst (λ k. is_perfect k (term_of h xs) ≡ true) (sym (height-term_of h xs)) (perfect-term_of h xs)

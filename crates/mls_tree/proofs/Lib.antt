@@ -21,7 +21,6 @@ pub mod Pathing
 pub mod Passing
 pub mod Fitting
 pub mod Checked
-pub mod Halves
 pub mod EditsKeepGood
 pub mod KeptHashes
 pub mod Costs
@@ -31,3 +30,4 @@ pub mod Filling
 pub mod Indexing
 pub mod Ways
 pub mod Following
+pub mod Drafting

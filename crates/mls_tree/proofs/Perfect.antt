@@ -7,14 +7,14 @@ use Rattle.mls_tree_model.proofs.PlaceLaws.{perfect_itself}
 use Rattle.mls_tree.specs.Tree.{Tree, term}
 
 pub perfect : (t : Tree) → is_perfect (height (term t)) (term t) ≡ true
-perfect t = perfect_itself t.levels (term t) (perfect-term_of t.levels t.listing)
+perfect t = perfect_itself t.height (term t) (perfect-term_of t.height t.nodes)
 
 -- its height is the one that it is kept with
-pub height_is : (t : Tree) → height (term t) ≡ t.levels
-height_is t = height-perfect t.levels (term t) (perfect-term_of t.levels t.listing)
+pub height_is : (t : Tree) → height (term t) ≡ t.height
+height_is t = height-perfect t.height (term t) (perfect-term_of t.height t.nodes)
 
-pub perfect_levels : (t : Tree) → is_perfect t.levels (term t) ≡ true
-perfect_levels t = perfect-term_of t.levels t.listing
+pub perfect_levels : (t : Tree) → is_perfect t.height (term t) ≡ true
+perfect_levels t = perfect-term_of t.height t.nodes
 
 -- so its width is a power of two
 pub width_is : (t : Tree) → width (term t) ≡ 2 ^ height (term t)

@@ -7,7 +7,7 @@ use Rattle.mls_treemath.specs.Limits.{max_height}
 use Rattle.mls_treemath.specs.Paths.{nodes_in}
 use Rattle.mls_tree_model.specs.Term.{width, is_full_width}
 use Rattle.mls_tree_model.specs.Good.{is_within}
-use Rattle.mls_tree_model.specs.Arrays.{term_of, has_last, alternates, height_for, padded, sent_term, from_nodes}
+use Rattle.mls_tree_model.specs.Arrays.{term_of, has_last, alternates, height_for, with_padding, sent_term, from_nodes}
 use Rattle.mls_tree_array.specs.Standing.{Stands}
 use Rattle.mls_tree_model.proofs.ArrayLaws.{width-term_of}
 use Rattle.mls_tree_array.proofs.OrderLaws.{Stands-padded}
@@ -26,7 +26,7 @@ module _ (xs : List (Option Node)) where
   -- at the height of the least tree that holds the nodes, blank ones behind them change nothing
   module _ (last : has_last xs ≡ true) (placed : alternates true xs ≡ true) (h : ℕ) (at : h ≡ height_for (length xs)) where
     sent_as : term_of h xs ≡ sent_term xs
-    unfolding sent_term padded
+    unfolding sent_term with_padding
     sent_as =
         sym (term_of-behind h xs (nodes_in (height_for (length xs)) - length xs))
         ∙ ap (λ k. term_of k (xs ++ replicate (nodes_in (height_for (length xs)) - length xs) None)) at
@@ -47,10 +47,10 @@ module _ (xs : List (Option Node)) where
     received e low = rw (last, placed, ap is_full_width (sym sent_as) ∙ e, le-leb (width (sent_term xs)) max_leaves (subst (λ w. w ≤ max_leaves) (sym width_is) (pow_mono low))) (ap Ok (sym sent_as))
 
     -- the nodes with blank ones behind them
-    module _ (ys : List (Option Node)) (is : ys ≡ padded xs) where
+    module _ (ys : List (Option Node)) (is : ys ≡ with_padding xs) where
       pub stands_as : Stands h ys
       stands_as = subst (λ k. Stands k ys) (sym at) (subst (Stands (height_for (length xs))) (sym is) (Stands-padded xs placed))
 
       pub same_term : term_of h xs ≡ term_of h ys
-      unfolding padded
+      unfolding with_padding
       same_term = sym (ap (term_of h) is ∙ term_of-behind h xs (nodes_in (height_for (length xs)) - length xs))

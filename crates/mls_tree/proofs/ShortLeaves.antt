@@ -13,7 +13,7 @@ use Rattle.mls_leaf.specs.declared.node.Node.TheVariants.{Leaf as in_leaf, Paren
 use Rattle.mls_checks.specs.Short.{IsShort}
 use Rattle.mls_treemath.specs.Paths.{nodes_in}
 use Rattle.mls_tree_model.specs.Term.{Term, leaf_at, leaf_of, width}
-use Rattle.mls_tree_model.specs.Arrays.{leaf_in, term_of, padded, height_for, sent_term}
+use Rattle.mls_tree_model.specs.Arrays.{leaf_in, term_of, with_padding, height_for, sent_term}
 use Rattle.mls_tree.specs.ShortLeaves.{HasShortLeaves, AreShort}
 use Rattle.mls_tree.proofs.Cells.{Cells, of_front, of_back, of_padded}
 
@@ -69,6 +69,6 @@ short_within (Some (in_parent p)) n lt w = tt
 
 -- the leaves of the tree that short nodes stand for are short
 pub short_leaves : (xs : List (Option Node)) → AreShort xs → HasShortLeaves (sent_term xs)
-unfolding sent_term padded
+unfolding sent_term with_padding
 short_leaves xs short =
     of_tree (height_for (length xs)) _ (of_padded ShortCell tt _ xs (λ k. short_within (get_or xs k None) (length (flat_map (optional node).spell xs)) short.short (of_spelled xs short.fits k)))

@@ -9,32 +9,32 @@ use Rattle.mls_tree.specs.Tree.{Tree, term}
 
 -- whether a node has no kept hash
 abbrev pub is_cold : Tree → ℕ → Bool
-is_cold t n = is_cold_at t.kept n
+is_cold t n = is_cold_at t.hashes n
 
 -- how many nodes have none
 abbrev pub cold_nodes : Tree → ℕ
-cold_nodes t = cold_places t.kept
+cold_nodes t = cold_places t.hashes
 
 -- All nodes of a new tree are cold.
 pub record IsNewTree (t : Tree) : Type 0 where
   pub each : (n : ℕ) → n < size (term t) → is_cold t n ≡ true
   pub count : cold_nodes t ≡ size (term t)
-  pub done : t.done ≡ 0
+  pub done : t.hash_count ≡ 0
 
 -- A call that asks for hashes keeps those that it makes: no node becomes cold, and the counter rises by as many as are
 -- cold no more.
 pub record Warms (old new : Tree) : Type 0 where
   pub each : (n : ℕ) → is_cold new n ≡ true → is_cold old n ≡ true
   pub fewer : cold_nodes new ≤ cold_nodes old
-  pub done : new.done ≡ counted old.done (cold_nodes old - cold_nodes new)
+  pub done : new.hash_count ≡ counted old.hash_count (cold_nodes old - cold_nodes new)
 
 -- An edit of leaf i makes its node cold, the nodes over it in the tree t, and those that a doubling adds; nodes that
 -- are cut off are counted no more. So it is settled which nodes are cold, and how many.
 pub record Chills (t : Term) (i : ℕ) (old new : Tree) : Type 0 where
   pub each : (n : ℕ) → n < size (term new) → is_cold new n ≡ (is_cold old n || (nat_le (size (term old)) n || has (nodes_upward 0 t i) n))
-  pub whole : length new.kept ≡ size (term new)
+  pub whole : length new.hashes ≡ size (term new)
   pub few : cold_nodes new ≤ cold_nodes old + suc (height t) + (size (term new) - size (term old))
-  pub done : new.done ≡ old.done
+  pub done : new.hash_count ≡ old.hash_count
 
 -- A call warms nodes of a tree, and then edits leaf i.
 abbrev pub WarmsThenChills : ℕ → Tree → Tree → Type 0
@@ -75,20 +75,22 @@ unfoldable pub last_of : Tree → List Called → Tree
 last_of old [] = old
 last_of old (c ∷ calls) = last_of c.after calls
 
--- how many of them are edits
+-- one where a call is an edit
 abbrev pub one_edit : Call → ℕ
 one_edit Asks = 0
 one_edit (Edits t i) = 1
 
+-- how many of some calls are edits
 unfoldable pub edits : List Called → ℕ
 edits [] = 0
 edits (c ∷ calls) = one_edit c.call + edits calls
 
--- how many nodes their doublings add
+-- how many nodes a call adds where it doubles the tree
 abbrev pub one_doubling : Tree → Call → Tree → ℕ
 one_doubling old Asks new = 0
 one_doubling old (Edits t i) new = size (term new) - size (term old)
 
+-- how many nodes the doublings of some calls add
 unfoldable pub doubled : Tree → List Called → ℕ
 doubled old [] = 0
 doubled old (c ∷ calls) = one_doubling old c.call c.after + doubled c.after calls
@@ -97,4 +99,4 @@ doubled old (c ∷ calls) = one_doubling old c.call c.after + doubled c.after ca
 -- tree was higher than h and doublings added d nodes.
 abbrev pub FewHashes : Type 0
 FewHashes =
-    (h : ℕ) (t : Tree) (calls : List Called) → cold_nodes t ≡ 0 → MakesAll h t calls → (last_of t calls).done ≤ t.done + (edits calls * suc h + doubled t calls)
+    (h : ℕ) (t : Tree) (calls : List Called) → cold_nodes t ≡ 0 → MakesAll h t calls → (last_of t calls).hash_count ≤ t.hash_count + (edits calls * suc h + doubled t calls)

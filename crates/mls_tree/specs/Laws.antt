@@ -5,8 +5,8 @@ use Rattle.mls_wire.specs.Checks.{passed}
 use Rattle.mls_leaf.specs.declared.leaf.LeafNode.{LeafNode}
 use Rattle.mls_leaf.specs.declared.key_package.KeyPackage.{KeyPackage}
 use Rattle.mls_suite.specs.Crypto.{Crypto}
-use Rattle.mls_checks.specs.declared.checks.Source.{Source}
-use Rattle.mls_checks.specs.Checks.{key_package_checks, replaced_checks}
+use Rattle.mls_checks.specs.declared.checks.LeafUse.{LeafUse}
+use Rattle.mls_checks.specs.Checks.{key_package_checks, replacement_checks}
 use Rattle.mls_tree_model.specs.Good.{AreFit}
 use Rattle.mls_tree.specs.Rules.{rules_of}
 
@@ -17,4 +17,4 @@ PackageFits = (c : Crypto) (group : List ℕ) (k : KeyPackage) → key_package_c
 -- the leaf of an update or of a path that passed its checks, at the place that it replaces, with the keys of the path,
 -- where these and its own are fit for sealing
 abbrev pub ReplacementFits : Type 0
-ReplacementFits = (c : Crypto) (group : List ℕ) (new old : LeafNode) (source : Source) (i : ℕ) (keys : List (List ℕ)) → replaced_checks c new old source group i ≡ Ok passed → list_all c.key_ok (new.encryption_key ∷ keys) ≡ true → AreFit (rules_of c group) i new keys
+ReplacementFits = (c : Crypto) (group : List ℕ) (new old : LeafNode) (source : LeafUse) (i : ℕ) (keys : List (List ℕ)) → replacement_checks c new old source group i ≡ Ok passed → list_all c.key_ok (new.encryption_key ∷ keys) ≡ true → AreFit (rules_of c group) i new keys

@@ -11,7 +11,7 @@ pub mod Bounds
 pub mod Way
 pub mod IndexedKeys
 pub mod PreparedPath
+pub mod PathDraft
 pub mod PathMerging
 pub mod ArrayEdits
 pub mod Checking
-pub mod TestTrees

@@ -13,7 +13,7 @@ use Rattle.mls_tree_model.specs.Merge.{merge_path, path_parent_hash}
 use Rattle.mls_tree.specs.Tree.{member_at}
 
 -- `NoSuchLeaf` (22) where no member is at leaf i, then `PathLength` (30) where there aren't as many keys as its
--- filtered path has parents
+-- filtered path has parents (RFC 9420, 7.6)
 unfoldable pub path_checks : Term → ℕ → ℕ → Result Passed ℕ
 path_checks t i n = member_at t i >>= λ v. require 30 (n == path_length 0 t i)
 
@@ -27,8 +27,9 @@ unfoldable pub counts_answer : Term → ℕ → List ℕ → Result (List ℕ) �
 counts_answer t i added = member_at t i >>= λ v. Ok (ciphertext_counts 0 t i added)
 
 -- `NoSuchLeaf` (22) and `PathLength` (30), then `KeyRepeated` (25) where two nodes of the merged tree have one
--- encryption key, and `ParentHashWrong` (24) where the leaf's source isn't a commit with the path's parent hash (RFC
--- 9420, 7.9.2 and 12.4.2). The standard asks 25 before the merge, and so refuses a key that the merge replaces.
+-- encryption key, and `ParentHashWrong` (24) where the leaf's source isn't a commit with the path's parent hash
+-- (RFC 9420, 7.9.2 and 12.4.2). The standard asks `KeyRepeated` (25) before the merge, and so refuses a key that the
+-- merge replaces.
 unfoldable pub merge_checks : Term → ℕ → LeafNode → List (List ℕ) → Result Passed ℕ
 merge_checks t i x keys =
     path_checks t i (length keys)

@@ -13,16 +13,16 @@ use Rattle.mls_tree_model.specs.Arrays.{term_of}
 
 -- the nodes in order, and the height; the kept hashes beside the nodes, and how many hashes of nodes were made
 pub record Tree : Type 0 where
-  pub levels : ℕ
-  pub listing : List (Option Node)
-  pub kept : List (Option (List ℕ))
-  pub done : ℕ
+  pub height : ℕ
+  pub nodes : List (Option Node)
+  pub hashes : List (Option (List ℕ))
+  pub hash_count : ℕ
 
 -- the tree that it stands for (RFC 9420, 7.1)
 abbrev pub term : Tree → Term
-term t = term_of t.levels t.listing
+term t = term_of t.height t.nodes
 
--- the most leaves of a tree
+-- the most leaves of a tree, which is this project's choice
 abbrev pub max_leaves : ℕ
 max_leaves = 2 ^ max_height
 

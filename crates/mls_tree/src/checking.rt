@@ -1,6 +1,6 @@
 //! The checks of a whole tree (RFC 9420, 7.3, 7.9.2 and 12.4.3.1).
 
-ghost use Rattle.std.specs.Prelude.{◌≡◌, ℕ, ◌<◌, ◌≤◌, ◌^◌, length, IfOk, OnOk, IfSome};
+ghost use Rattle.std.specs.Prelude.{◌≡◌, ℕ, ◌<◌, ◌≤◌, ◌^◌, true, length, IfOk, OnOk, IfSome};
 ghost use Rattle.std.specs.Option.{option_copied};
 ghost use Rattle.std.specs.List.{list_all};
 ghost use Rattle.mls_wire.specs.Checks.{require};
@@ -10,7 +10,7 @@ ghost use Rattle.mls_checks.specs.Leaf.{is_capable};
 ghost use Rattle.mls_checks.specs.Short.{IsShort};
 ghost use Rattle.mls_leaf.specs.Leaf.{leaf_node};
 ghost use Rattle.mls_tree_model.specs.Keys.{passes};
-ghost use Rattle.mls_tree_model.specs.Good.{has_good_lists, has_distinct_keys, has_distinct_clients};
+ghost use Rattle.mls_tree_model.specs.Good.{has_good_lists, has_good_hashes, has_distinct_keys, has_distinct_clients};
 ghost use Rattle.mls_tree_model.specs.Arrays.{term_of};
 ghost use Rattle.mls_tree_array.specs.KeptHashes.{hashes_of};
 ghost use Rattle.mls_tree_array.specs.Standing.{Stands};
@@ -29,7 +29,7 @@ use crate::tree::PublicTree;
 use mls_checks::{leaf_capable, leaf_signed};
 use mls_leaf::{LeafNode, Node};
 use mls_suite::Suite;
-use mls_tree_array::{self as array, Hash};
+use mls_tree_array::{self as array, Hash, HashedSubtree, Subtree};
 use mls_tree_slot::Slot;
 use std::alloc::{AllocError, Global};
 
@@ -121,6 +121,33 @@ fn are_all_fit<S: Suite>(nodes: &[Slot], height: u32) -> bool
     true
 }
 
+/// Whether each list of unmerged leaves is right.
+fn has_good_lists(nodes: &[Slot], height: u32) -> bool
+    requires stands { Stands height nodes.now }
+    requires low { height ≤ max_height }
+    ensures right { result ≡ has_good_lists (term_of height nodes.now) }
+    ensures rising { result ≡ true → AllRise 0 (term_of height nodes.now) }
+{
+    array::has_good_lists(&Subtree::of(nodes, height))
+}
+
+/// Whether each parent is parent-hash valid, where the lists of unmerged leaves are right.
+fn has_good_hashes(
+    alloc: Global,
+    nodes: &[Slot],
+    kept: &[Option<Hash>],
+    height: u32,
+) -> Result<bool, AllocError>
+    requires stands { Stands height nodes.now }
+    requires low { height ≤ max_height }
+    requires hashed { kept.now ≡ hashes_of 0 (term_of height nodes.now) }
+    requires lists { has_good_lists (term_of height nodes.now) ≡ true }
+    ensures { IfOk result (λ v. v ≡ has_good_hashes (term_of height nodes.now)) }
+{
+    let tree = HashedSubtree::of(Subtree::of(nodes, height), kept);
+    array::has_good_hashes(alloc, &tree)
+}
+
 /// The checks of a whole tree in their order.
 #[tactic(auto, unfolding(mls_tree_model::specs::Good::tree_checks))]
 fn check<S: Suite>(
@@ -135,17 +162,16 @@ fn check<S: Suite>(
     requires low { height ≤ max_height }
     requires group { length group_id.now < 2 ^ 28 }
     requires short { HasShortLeaves (term_of height nodes.now) }
-    requires long { length kept.now ≡ nodes_in height }
     requires hashed { kept.now ≡ hashes_of 0 (term_of height nodes.now) }
     requires indexed { AreIndexes nodes.now indexes.now }
     ensures answer { AnswersTreeChecks S.crypto group_id.now (term_of height nodes.now) result }
     ensures lists { Refuses (require 23 (has_good_lists (term_of height nodes.now))) result }
     ensures rising { OnOk result (AllRise 0 (term_of height nodes.now)) }
 {
-    if !array::has_good_lists(nodes, height) {
+    if !has_good_lists(nodes, height) {
         return Err(TreeError::UnmergedWrong);
     }
-    if !array::has_good_hashes(alloc, nodes, kept, height)? {
+    if !has_good_hashes(alloc, nodes, kept, height)? {
         return Err(TreeError::ParentHashWrong);
     }
     if !indexes.has_distinct_keys() {

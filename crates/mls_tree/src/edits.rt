@@ -12,7 +12,7 @@ ghost use Rattle.mls_tree.specs.IndexedKeys.{KeepsIndexes};
 ghost use Rattle.mls_tree.specs.ArrayEdits.{StandsEntered, StandsAppended, KeepsAppended};
 
 use crate::key_indexes::KeyIndexes;
-use mls_tree_array::{self as array, Hashes};
+use mls_tree_array::{self as array, Hashes, Subtree};
 use mls_tree_slot::{SharedLeaf, Slot};
 use std::alloc::AllocError;
 
@@ -81,7 +81,7 @@ pub(crate) fn trim(nodes: &mut Vec<Slot>, indexes: &mut KeyIndexes, height: u32,
     ensures low { result ≤ height }
     ensures indexes { KeepsIndexes nodes.old.items nodes.new.items indexes.old indexes.new }
 {
-    let low = array::trimmed_height(nodes, height, end);
+    let low = array::trimmed_height(&Subtree::of(nodes, height), end);
     let count = (1 << (low + 1)) - 1;
     indexes.leave_from(nodes, count);
     nodes.truncate(count);

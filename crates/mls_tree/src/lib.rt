@@ -5,36 +5,18 @@
 //! leaf index, a node by its node index (RFC 9420, appendix C).
 #![tactic(auto)]
 
-#[cfg(test)]
-mod check_tests;
 mod checking;
+mod drafts;
 mod edits;
 mod error;
-#[cfg(test)]
-mod hash_tests;
-#[cfg(test)]
-mod index_tests;
 mod key_indexes;
 mod laws;
-#[cfg(test)]
-mod path_tests;
 mod paths;
 mod prepared;
-#[cfg(test)]
-mod rows;
-#[cfg(test)]
-mod test_edits;
-#[cfg(test)]
-mod test_queries;
-#[cfg(test)]
-mod test_trees;
-#[cfg(test)]
-mod tests;
 mod tree;
 mod way;
-#[cfg(test)]
-mod way_tests;
 
+pub use drafts::PathDraft;
 pub use error::TreeError;
 pub use laws::{hashing_costs, laws_of_leaves};
 pub use mls_tree_array::Hash;

@@ -11,6 +11,7 @@ ghost use Rattle.mls_tree_model.specs.Hashes.{is_some_bytes};
 ghost use Rattle.mls_tree_model.specs.Merge.{path_parent_hash};
 ghost use Rattle.mls_tree_model.specs.Arrays.{term_of};
 ghost use Rattle.mls_tree_array.specs.KeptHashes.{hashes_of};
+ghost use Rattle.mls_tree_model.specs.LastPath.{last_path};
 ghost use Rattle.mls_tree_array.specs.Standing.{Stands};
 ghost use Rattle.mls_tree_array.specs.Merging.{hash_bytes};
 ghost use Rattle.mls_tree_array.specs.PathParents.{HasParents};
@@ -81,7 +82,7 @@ pub(crate) fn merge_with_indexes(
 }
 
 /// Whether the leaf's source is a commit with this parent hash.
-fn has_parent_hash(leaf: &LeafNode, hash: &[u8]) -> bool
+pub(crate) fn has_parent_hash(leaf: &LeafNode, hash: &[u8]) -> bool
     ensures { result ≡ is_some_bytes (source_hash leaf.now.source) hash.now }
 {
     match &leaf.source {
@@ -95,32 +96,35 @@ impl PublicTree {
     fn path_length(&self, i: u32) -> u32
         ensures { result ≡ path_length 0 (term self.now) i }
     {
-        array::path_length(&self.nodes, self.height, 0, i)
+        array::path_length(&self.subtree(), i)
     }
 
     /// The parent hash that reaches leaf i, where there is one.
     fn path_hash(&self, i: u32, keys: &[Bytes]) -> Option<Hash>
-        requires { self.now.kept ≡ hashes_of 0 (term self.now) }
+        requires { self.now.hashes ≡ hashes_of 0 (term self.now) }
         ensures { hash_bytes result ≡ path_parent_hash (term self.now) i keys.now }
     {
-        let kept = self.hashes.as_slice();
-        array::path_hash(&self.nodes, kept, self.height, 0, i, keys, None)
+        array::path_hash(&self.hashed_subtree(), i, keys, None)
     }
 
     /// The parents over leaf i, the highest first, and the parent hash that reaches it.
-    fn merged_path(&self, i: u32, keys: Vec<Bytes>) -> Result<MergedPath, AllocError>
-        requires { self.now.kept ≡ hashes_of 0 (term self.now) }
+    pub(crate) fn merged_path(&self, i: u32, keys: Vec<Bytes>) -> Result<MergedPath, AllocError>
+        requires { self.now.hashes ≡ hashes_of 0 (term self.now) }
         ensures parents { IfOk result (HasParents 0 (term self.now) i keys.items) }
         ensures hash { IfOk result (HasPathHash (term self.now) i keys.items) }
     {
         let alloc = *self.nodes.allocator();
-        let kept = self.hashes.as_slice();
-        let path = array::path_parents(alloc, &self.nodes, kept, self.height, 0, i, keys)?;
+        let path = array::path_parents(alloc, &self.hashed_subtree(), i, keys)?;
         Ok(path)
     }
 
     /// Whether the merged tree has no encryption key twice. Takes memory only where the tree has one twice.
-    fn keys_differ(&self, i: u32, leaf: &LeafNode, keys: &[Bytes]) -> Result<bool, AllocError>
+    pub(crate) fn keys_differ(
+        &self,
+        i: u32,
+        leaf: &LeafNode,
+        keys: &[Bytes],
+    ) -> Result<bool, AllocError>
         requires { path_checks (term self.now) i (length keys.now) ≡ Ok passed }
         ensures { IfOk result (λ b. b ≡ keys_differ (term self.now) i leaf.now keys.now) }
     {
@@ -131,7 +135,7 @@ impl PublicTree {
     }
 
     /// Refuses a leaf index at which no member is, and then a number of keys that isn't that of the filtered path.
-    fn require_path(&self, i: u32, count: usize) -> Result<(), TreeError>
+    pub(crate) fn require_path(&self, i: u32, count: usize) -> Result<(), TreeError>
         ensures { PassesOutright (path_checks (term self.now) i count) result }
     {
         if self.leaf(i).is_none() {
@@ -151,7 +155,7 @@ impl PublicTree {
         leaf: &LeafNode,
         keys: Vec<Bytes>,
     ) -> Result<Vec<SharedParent>, TreeError>
-        requires { self.now.kept ≡ hashes_of 0 (term self.now) }
+        requires { self.now.hashes ≡ hashes_of 0 (term self.now) }
         ensures checks { AnswersChecks (merge_checks (term self.now) i leaf.now keys.items) result }
         ensures outright { Refuses (path_checks (term self.now) i (length keys.items)) result }
         ensures parents { IfOk result (ArePathParents (term self.now) i keys.items) }
@@ -185,8 +189,16 @@ impl PublicTree {
         }
         let levels = self.height as usize;
         let mut counts = Vec::with_capacity(*self.nodes.allocator(), levels)?;
-        array::ciphertext_counts(&self.nodes, self.height, 0, i, added, &mut counts)?;
+        array::ciphertext_counts(&self.subtree(), i, added, &mut counts)?;
         Ok(counts)
+    }
+
+    /// The path of the last commit that had one, as node indices, from the root down to its leaf: the parent hashes tell
+    /// it (RFC 9420, 7.9.2). Empty where the root is blank or the tree is a leaf.
+    pub fn last_path(&self) -> Result<Vec<u32>, AllocError>
+        ensures { IfOk result (λ v. v.items ≡ last_path (term self.now)) }
+    {
+        array::last_path(*self.nodes.allocator(), &self.subtree())
     }
 
     /// The parent hash that the leaf of a path with these keys must have, the lowest first: empty where the filtered

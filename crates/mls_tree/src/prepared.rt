@@ -57,24 +57,14 @@ impl PublicTree {
         leaf: &LeafNode,
         parents: &[SharedParent],
     ) -> Result<(Vec<Hash>, Hash), AllocError>
-        requires { self.now.kept ≡ hashes_of 0 (term self.now) }
+        requires { self.now.hashes ≡ hashes_of 0 (term self.now) }
         ensures { IfOk result (AreHashesOver (term self.now) i parents.now leaf.now) }
     {
         let levels = self.height as usize + 1;
         let mut hashes = Vec::with_capacity(*self.nodes.allocator(), levels)?;
         let mut done = 0;
-        let kept = self.hashes.as_slice();
-        let root = array::merged_hashes(
-            &self.nodes,
-            kept,
-            self.height,
-            0,
-            i,
-            parents,
-            leaf,
-            &mut hashes,
-            &mut done,
-        )?;
+        let tree = self.hashed_subtree();
+        let root = array::merged_hashes(&tree, i, parents, leaf, &mut hashes, &mut done)?;
         Ok((hashes, root))
     }
 
@@ -87,7 +77,7 @@ impl PublicTree {
         leaf: LeafNode,
         keys: Vec<Bytes>,
     ) -> Result<PreparedPath, TreeError>
-        requires warm { self.now.kept ≡ hashes_of 0 (term self.now) }
+        requires warm { self.now.hashes ≡ hashes_of 0 (term self.now) }
         ensures answer { AnswersPrepared (term self.now) i leaf keys.items result }
         // `NoSuchLeaf` (22) and `PathLength` (30) come whatever memory there is.
         ensures outright { Refuses (path_checks (term self.now) i (length keys.items)) result }
@@ -110,10 +100,10 @@ impl PublicTree {
     /// Merges a path that was prepared for this tree, in which no node is cold before or after: nothing is checked
     /// again, and no hash made. Without memory for the leaf or the indexes the tree is as before.
     pub fn follow_path(&mut self, path: PreparedPath) -> Result<(), AllocError>
-        requires warm { self.old.kept ≡ hashes_of 0 (term self.old) }
+        requires warm { self.old.hashes ≡ hashes_of 0 (term self.old) }
         requires prepared { IsFor (term self.old) path }
         ensures tree { OnOk result (term self.new ≡ merged_by (term self.old) path) }
-        ensures warm { OnOk result (self.new.kept ≡ hashes_of 0 (term self.new)) }
+        ensures warm { OnOk result (self.new.hashes ≡ hashes_of 0 (term self.new)) }
         // It makes the leaf and the nodes over it cold, and then warms them: the hashes that were made for it are
         // counted.
         ensures cold { OnOk result (ChillsThenWarms path.index self.old self.new) }

@@ -24,7 +24,7 @@ use crate::error::TreeError;
 use crate::key_indexes::KeyIndexes;
 use crate::way::Way;
 use mls_leaf::{LeafNode, Node};
-use mls_tree_array::{self as array, Hash, Hashes};
+use mls_tree_array::{self as array, Hash, HashedSubtree, Hashes, Subtree};
 use mls_tree_slot::{SharedLeaf, Slot};
 use mls_treemath::MAX_HEIGHT;
 use std::alloc::{AllocError, Global};
@@ -57,7 +57,7 @@ impl Model for PublicTree {
 
     ghost Value = { Tree };
 
-    ghost view = { λ t. record { levels = t.height; listing = t.nodes.items; kept = t.hashes.kept; done = t.hashes.done } };
+    ghost view = { λ t. record { height = t.height; nodes = t.nodes.items; hashes = t.hashes.kept; hash_count = t.hashes.done } };
 
     ghost invariant = { λ t. Stands t.height t.nodes.items × (t.height ≤ max_height) × Keeps 0 (term_of t.height t.nodes.items) t.hashes.kept × Bounds (term_of t.height t.nodes.items) t.full_to t.blank_from × AreIndexes t.nodes.items t.indexes };
 }
@@ -133,6 +133,21 @@ impl PublicTree {
         Ok(sent)
     }
 
+    /// The tree as a subtree of itself.
+    pub(crate) fn subtree(&self) -> Subtree<'_>
+        ensures { result ≡ record { first = 0; term = term self.now } }
+    {
+        Subtree::of(&self.nodes, self.height)
+    }
+
+    /// The same with its hashes, where no node is cold.
+    pub(crate) fn hashed_subtree(&self) -> HashedSubtree<'_>
+        requires { self.now.hashes ≡ hashes_of 0 (term self.now) }
+        ensures { result ≡ record { first = 0; term = term self.now } }
+    {
+        HashedSubtree::of(self.subtree(), self.hashes.as_slice())
+    }
+
     /// How many leaves it has, blank ones too.
     pub fn leaf_count(&self) -> u32
         ensures { result ≡ width (term self.now) }
@@ -144,7 +159,7 @@ impl PublicTree {
     pub fn member_count(&self) -> u32
         ensures { result ≡ length (members 0 (term self.now)) }
     {
-        array::member_count(&self.nodes, self.height)
+        array::member_count(&self.subtree())
     }
 
     /// The leaf of member i: None where it is blank or outside the tree.
@@ -177,7 +192,7 @@ impl PublicTree {
         ensures { IfOk result (λ v. v.items ≡ resolution_at 0 (term self.now) x) }
     {
         let mut nodes = Vec::new(*self.nodes.allocator());
-        array::resolution_at(&self.nodes, self.height, 0, x, &mut nodes)?;
+        array::resolution_at(&self.subtree(), x, &mut nodes)?;
         Ok(nodes)
     }
 
@@ -185,7 +200,7 @@ impl PublicTree {
     pub fn is_reached(&self, x: u32) -> bool
         ensures { result ≡ not (is_empty (resolution_at 0 (term self.now) x)) }
     {
-        array::is_reached_at(&self.nodes, self.height, 0, x)
+        array::is_reached_at(&self.subtree(), x)
     }
 
     /// The filtered direct path of member i as node indices, the lowest first (RFC 9420, 4.1.2); `NoSuchLeaf` (22)
@@ -199,7 +214,7 @@ impl PublicTree {
             Ok(()) => {}
         }
         let mut nodes = Vec::new(*self.nodes.allocator());
-        array::filtered_path(&self.nodes, self.height, 0, i, &mut nodes)?;
+        array::filtered_path(&self.subtree(), i, &mut nodes)?;
         Ok(nodes)
     }
 
@@ -208,8 +223,9 @@ impl PublicTree {
         ensures value { result ≡ tree_hash 0 (term self.old) }
         ensures same { term self.new ≡ term self.old }
         // Afterwards no node is cold. What was made is counted.
-        ensures all { self.new.kept ≡ hashes_of 0 (term self.old) }
-        ensures counted { self.new.done ≡ counted self.old.done (cold_places self.old.kept) }
+        ensures all { self.new.hashes ≡ hashes_of 0 (term self.old) }
+        ensures counted { self.new.hash_count ≡ counted self.old.hash_count
+            (cold_places self.old.hashes) }
     {
         self.hashes.fill(&self.nodes, self.height)
     }
@@ -217,7 +233,7 @@ impl PublicTree {
     /// How many hashes of nodes were made of this tree and those that it was copied from; the counter stays at its
     /// greatest number.
     pub fn hashes_done(&self) -> u64
-        ensures { result ≡ self.now.done }
+        ensures { result ≡ self.now.hash_count }
     {
         self.hashes.done()
     }
@@ -236,7 +252,7 @@ impl PublicTree {
     {
         let height = self.height;
         let alloc = *self.nodes.allocator();
-        match array::first_blank(&self.nodes, height, 0, self.full_to) {
+        match array::first_blank(&Subtree::of(&self.nodes, height), self.full_to) {
             Some(i) => {
                 let leaf = SharedLeaf::new(alloc, leaf)?;
                 self.indexes.reserve(1)?;
@@ -309,7 +325,7 @@ impl PublicTree {
         self.indexes.leave_all(&self.nodes, way.as_slice());
         edits::put(&mut self.nodes, height, i, None);
         self.hashes.drop_way(height, i);
-        let end = array::end_of_members(&self.nodes, height, 0, self.blank_from);
+        let end = array::end_of_members(&Subtree::of(&self.nodes, height), self.blank_from);
         self.height = edits::trim(&mut self.nodes, &mut self.indexes, height, end);
         self.hashes.cut(self.nodes.len());
         self.full_to = self.full_to.min(i);

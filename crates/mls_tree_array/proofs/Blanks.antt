@@ -1,11 +1,11 @@
 -- Laws: blank cells behind a list change nothing in the tree that it stands for.
-use Rattle.std.proofs.Common.{◌≡◌, ℕ, zero, suc, ◌+◌, ◌-◌, ◌*◌, ◌^◌, ◌<◌, ◌≤◌, false, ◌||◌, List, [], ◌∷◌, ◌++◌, length, get_or, slice_get, take, drop, replicate, Option, None, is_some, unwrap_or, refl, sym, ◌∙◌, ap, arith, pow-suc}
+use Rattle.std.proofs.Common.{◌≡◌, ℕ, zero, suc, ◌+◌, ◌-◌, ◌^◌, ◌<◌, ◌≤◌, false, ◌||◌, List, [], ◌∷◌, ◌++◌, length, get_or, slice_get, take, drop, replicate, Option, None, is_some, unwrap_or, refl, sym, ◌∙◌, ap, arith, pow-suc}
 use Rattle.std.proofs.lemmas.List.{take_rest, take_all, drop_all}
 use Rattle.std.proofs.Math.Bool.{or-false}
 use Rattle.std.proofs.lemmas.Option.{unwrap_or-slice_get}
 use Rattle.mls_leaf.specs.declared.node.Node.{Node}
 use Rattle.mls_treemath.specs.Paths.{nodes_in}
-use Rattle.mls_tree_model.specs.Term.{Term, Leaf, Branch, has_leaf, is_full_width}
+use Rattle.mls_tree_model.specs.Term.{Leaf, Branch, has_leaf, is_full_width}
 use Rattle.mls_tree_model.specs.Arrays.{leaf_in, parent_in, term_of}
 use Rattle.mls_tree_model.proofs.ArrayLaws.{nodes_in-leaves, term_of-zero, term_of-suc}
 use Rattle.mls_tree_model.proofs.Equations.{has_leaf_leaf, has_leaf_branch, is_full_width_leaf, is_full_width_branch}

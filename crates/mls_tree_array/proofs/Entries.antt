@@ -7,13 +7,14 @@ use Rattle.mls_leaf.specs.declared.node.Node.{Node}
 use Rattle.mls_treemath.specs.Paths.{nodes_in}
 use Rattle.mls_tree_model.specs.Term.{Branch}
 use Rattle.mls_tree_model.specs.Edits.{enter, list_leaf}
-use Rattle.mls_tree_model.specs.Arrays.{leaf_in, parent_in, leaf_cell, parent_cell, term_of, in_order, HasMiddle}
+use Rattle.mls_tree_model.specs.Arrays.{leaf_in, parent_in, leaf_cell, parent_cell, term_of, in_order}
 use Rattle.mls_tree_model.proofs.Equations.{enter_leaf, enter_left, enter_right}
 use Rattle.mls_tree_array.specs.Standing.{Stands}
 use Rattle.mls_tree_model.proofs.ArrayLaws.{width-term_of}
 use Rattle.mls_tree_array.proofs.StandingLaws.{in_order-leaf}
 use Rattle.mls_tree_model.proofs.ArrayLaws.{term_of-zero}
-use Rattle.mls_tree_array.proofs.Parts.{split}
+use Rattle.mls_tree_model.specs.Laws.{HasMiddle}
+use Rattle.mls_tree_array.proofs.Middles.{split}
 use Rattle.mls_tree_array.proofs.Standings.{half, left_put, right_put, left_stands, right_stands, root_stands, with_left, with_right, one_set}
 
 pub enter_one : (h b i : ℕ) (xs : List (Option Node)) (x : LeafNode) → h ≡ 0 → length xs ≡ nodes_in h → set xs 0 (leaf_cell (Some x)) ≡ in_order (enter b (term_of h xs) i x)

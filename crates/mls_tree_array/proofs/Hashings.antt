@@ -1,17 +1,16 @@
 -- The kept hashes of a tree, by the root and its sides.
-use Rattle.std.proofs.Common.{◌≡◌, ℕ, zero, suc, ◌+◌, ◌/◌, true, List, [], ◌∷◌, ◌++◌, length, get_or, Option, Some, None, is_some, refl, sym, ◌∙◌, ap, arith, length-append}
-use Rattle.std.proofs.lemmas.List.{get_or_at}
-use Rattle.mls_leaf.specs.Parent.{Parent}
+use Rattle.std.proofs.Common.{◌≡◌, ℕ, ◌+◌, ◌-◌, ◌/◌, ◌<◌, List, [], ◌∷◌, ◌++◌, length, get_or, take, drop, Option, Some, refl, sym, ◌∙◌, ap, arith}
+use Rattle.std.proofs.lemmas.List.{take_rest, length-take-le, length-drop}
 use Rattle.mls_leaf.specs.declared.node.Node.{Node}
 use Rattle.mls_treemath.specs.Paths.{nodes_in}
-use Rattle.mls_tree_model.specs.Term.{Term, Leaf, Branch, width, size}
+use Rattle.mls_tree_model.specs.Term.{width}
 use Rattle.mls_tree_model.specs.Inputs.{leaf_hash}
 use Rattle.mls_tree_model.specs.Hashes.{tree_hash}
 use Rattle.mls_tree_model.specs.Arrays.{leaf_in, term_of}
-use Rattle.mls_tree_model.proofs.ArrayLaws.{size-term_of, term_of-zero, term_of-suc}
 use Rattle.mls_tree_model.proofs.Equations.{tree_hash_leaf}
+use Rattle.mls_tree_model.specs.Laws.{HasMiddle}
 use Rattle.mls_tree_array.specs.KeptHashes.{hashes_of}
-use Rattle.mls_tree_array.proofs.KeptLaws.{length-hashes_of}
+use Rattle.mls_tree_array.proofs.Middles.{left_len, right_len}
 use Rattle.mls_tree_array.proofs.Readings.{leaf_term, left_side, right_side, InParts}
 
 pub hashes_one : (b h : ℕ) (xs : List (Option Node)) (n : Option Node) → h ≡ 0 → length xs ≡ nodes_in h → n ≡ get_or xs 0 n → hashes_of b (term_of h xs) ≡ Some (leaf_hash b (leaf_in n)) ∷ []
@@ -26,26 +25,19 @@ hashes_sides b h m xs n parts =
     ∙ ap (λ t. hashes_of b (left_side h m xs) ++ (Some (tree_hash b t) ∷ hashes_of (b + width (left_side h m xs)) (right_side h m xs))) (sym parts.is)
     ∙ ap (λ k. hashes_of b (left_side h m xs) ++ (Some (tree_hash b (term_of h xs)) ∷ hashes_of (b + k) (right_side h m xs))) parts.left_width
 
--- ---- the root's
+-- how many nodes and hashes the sides have
+module _ (h m : ℕ) (xs : List (Option Node)) (hs : List (Option (List ℕ))) (at : HasMiddle h (length xs) m) (pos : 0 < h) (long : length hs ≡ length xs) where
+  pub left_shape : length (take m xs) ≡ nodes_in (h - 1)
+  left_shape = left_len h (length xs) m xs at refl pos ∙ at.side
 
-root_of_one : (b : ℕ) (v : Option _) → get_or (hashes_of b (Leaf v)) (length (hashes_of b (Leaf v)) / 2) None ≡ Some (tree_hash b (Leaf v))
-unfolding hashes_of
-root_of_one b v = refl
+  pub right_shape : length (take (length xs - (m + 1)) (drop (m + 1) xs)) ≡ nodes_in (h - 1)
+  right_shape = ap length (take_rest xs (m + 1)) ∙ right_len h (length xs) m xs at refl pos ∙ at.side
 
-root_of_sides : (b : ℕ) (c : Option Parent) (l r : Term) → size l ≡ size r → get_or (hashes_of b (Branch c l r)) (length (hashes_of b (Branch c l r)) / 2) None ≡ Some (tree_hash b (Branch c l r))
-unfolding hashes_of
-root_of_sides b c l r same =
-    let first = length-hashes_of b l in
-    let second = length-hashes_of (b + width l) r in
-    let long = length-append (hashes_of b l) (Some (tree_hash b (Branch c l r)) ∷ hashes_of (b + width l) r) in
-    get_or_at (hashes_of b l) (Some (tree_hash b (Branch c l r))) (hashes_of (b + width l) r) None _ (omega arith)
+  pub left_count : length (take m hs) ≡ nodes_in (h - 1)
+  left_count = let w = at.whole in length-take-le m hs (omega arith) ∙ at.side
 
-root_is : (b h : ℕ) (xs : List (Option Node)) → get_or (hashes_of b (term_of h xs)) (length (hashes_of b (term_of h xs)) / 2) None ≡ Some (tree_hash b (term_of h xs))
-root_is b zero xs = rw (term_of-zero xs) (root_of_one b _)
-root_is b (suc h) xs = rw (term_of-suc h xs) (root_of_sides b _ _ _ (size-term_of h _ ∙ sym (size-term_of h _)))
-
-pub root_there : (b h : ℕ) (xs : List (Option Node)) (hs : List (Option (List ℕ))) → hs ≡ hashes_of b (term_of h xs) → is_some (get_or hs (length hs / 2) None) ≡ true
-root_there b h xs hs is = ap (λ ys. is_some (get_or ys (length ys / 2) None)) is ∙ ap is_some (root_is b h xs)
-
-pub root_read : (b h : ℕ) (xs : List (Option Node)) (hs : List (Option (List ℕ))) → hs ≡ hashes_of b (term_of h xs) → get_or hs (length hs / 2) None ≡ Some (tree_hash b (term_of h xs))
-root_read b h xs hs is = ap (λ ys. get_or ys (length ys / 2) None) is ∙ root_is b h xs
+  pub right_count : length (take (length hs - (m + 1)) (drop (m + 1) hs)) ≡ nodes_in (h - 1)
+  right_count =
+      let w = at.whole in
+      let s = at.side in
+      ap length (take_rest hs (m + 1)) ∙ length-drop (m + 1) hs ∙ omega arith

@@ -8,13 +8,14 @@ use Rattle.mls_treemath.specs.Paths.{nodes_in}
 use Rattle.mls_treemath.proofs.Sizes.{nodes_in-zero}
 use Rattle.mls_tree_model.specs.Term.{Term, Leaf, Branch, width, size, is_perfect}
 use Rattle.mls_tree_model.specs.Hashes.{tree_hash}
-use Rattle.mls_tree_model.specs.Arrays.{leaf_in, term_of, HasMiddle}
+use Rattle.mls_tree_model.specs.Arrays.{leaf_in, term_of}
 use Rattle.mls_tree_model.proofs.ShapeLaws.{width-perfect}
 use Rattle.mls_tree_model.proofs.ArrayLaws.{size-perfect}
 use Rattle.mls_tree_hash.specs.Counter.{counted}
 use Rattle.mls_tree_array.specs.KeptHashes.{hashes_of, Keeps, drop_hashes, cold_places}
 use Rattle.mls_tree_array.proofs.KeptLaws.{length-hashes_of, keeps_sides, warm_leaf, warm_branch, KeepsSides, cold-append, cold-cons, dropped_leaf, dropped_left, dropped_right, none_cold}
 use Rattle.mls_tree_model.specs.Inputs.{leaf_hash}
+use Rattle.mls_tree_model.specs.Laws.{HasMiddle}
 use Rattle.mls_tree_array.proofs.Hashed.{hash_one}
 use Rattle.mls_tree_array.proofs.Hashings.{hashes_one, hashes_sides}
 use Rattle.mls_tree_array.proofs.Readings.{leaf_term, left_side, right_side, InParts}

@@ -12,19 +12,18 @@ use Rattle.mls_treemath.specs.Paths.{nodes_in}
 use Rattle.mls_tree_model.specs.Term.{Term, Leaf, Branch, width}
 use Rattle.mls_tree_model.specs.Inputs.{sibling_hash}
 use Rattle.mls_tree_model.specs.Resolution.{is_reached}
-use Rattle.mls_tree_model.specs.Way.{path_length}
 use Rattle.mls_tree_model.specs.Hashes.{tree_hash, parent_hash}
-use Rattle.mls_tree_model.specs.Merge.{new_parent, keys_below, hash_below, merge, path_hash, parent_beside, keys_beside, hash_beside}
-use Rattle.mls_tree_model.specs.Arrays.{leaf_in, parent_in, leaf_cell, parent_cell, term_of, in_order, HasMiddle}
-use Rattle.mls_tree_model.proofs.Equations.{path_length_leaf, path_length_left, path_length_right, path_hash_leaf, path_hash_left, path_hash_right, merge_leaf, merge_left, merge_right}
+use Rattle.mls_tree_model.specs.Merge.{new_parent, keys_below, hash_below, merge, parent_beside, keys_beside, hash_beside}
+use Rattle.mls_tree_model.specs.Arrays.{leaf_in, parent_in, leaf_cell, parent_cell, term_of, in_order}
+use Rattle.mls_tree_model.proofs.Equations.{merge_leaf, merge_left, merge_right}
 use Rattle.mls_tree_model.proofs.MemberLaws.{original_tree-none}
 use Rattle.mls_tree_array.specs.Standing.{Stands}
 use Rattle.mls_tree_model.proofs.ArrayLaws.{width-term_of}
 use Rattle.mls_tree_array.proofs.StandingLaws.{in_order-leaf}
 use Rattle.mls_tree_array.specs.Merging.{path_parents, first_if, rest_if}
 use Rattle.mls_tree_model.proofs.ArrayLaws.{term_of-zero}
-use Rattle.mls_tree_array.proofs.Parts.{split, left_of_set, right_of_set}
-use Rattle.mls_tree_array.proofs.Readings.{left_side, right_side, InParts}
+use Rattle.mls_tree_model.specs.Laws.{HasMiddle}
+use Rattle.mls_tree_array.proofs.Middles.{split, left_of_set, right_of_set}
 use Rattle.mls_tree_array.proofs.Standings.{half, with_left, with_right, one_set}
 
 -- ---- one parent
@@ -65,27 +64,9 @@ pub bit_counts : (b : Bool) (n : ℕ) → bool_byte b + n ≡ cond b 1 0 + n
 bit_counts true n = refl
 bit_counts false n = refl
 
-pub length_no_more : (b h i : ℕ) (xs : List (Option Node)) → h ≡ 0 → path_length b (term_of h xs) i ≡ 0
-length_no_more b h i xs low =
-    ap (λ j. path_length b (term_of j xs) i) low
-    ∙ ap (λ t. path_length b t i) (term_of-zero xs)
-    ∙ path_length_leaf b (leaf_in (get_or xs 0 None)) i
-
-pub hash_no_more : (b h i : ℕ) (xs : List (Option Node)) (ks : List (List ℕ)) (g : List ℕ) → h ≡ 0 → path_hash b (term_of h xs) i ks g ≡ g
-hash_no_more b h i xs ks g low =
-    ap (λ j. path_hash b (term_of j xs) i ks g) low
-    ∙ ap (λ t. path_hash b t i ks g) (term_of-zero xs)
-    ∙ path_hash_leaf b (leaf_in (get_or xs 0 None)) i ks g
-
-parents_leaf : (b : ℕ) (v : Option LeafNode) (i : ℕ) (ks : List (List ℕ)) (g : List ℕ) → path_parents b (Leaf v) i ks g ≡ []
+pub parents_leaf : (b : ℕ) (v : Option LeafNode) (i : ℕ) (ks : List (List ℕ)) (g : List ℕ) → path_parents b (Leaf v) i ks g ≡ []
 unfolding path_parents
 parents_leaf b v i ks g = refl
-
-pub parents_no_more : (b h i : ℕ) (xs : List (Option Node)) (ks : List (List ℕ)) (g : List ℕ) → h ≡ 0 → path_parents b (term_of h xs) i ks g ≡ []
-parents_no_more b h i xs ks g low =
-    ap (λ j. path_parents b (term_of j xs) i ks g) low
-    ∙ ap (λ t. path_parents b t i ks g) (term_of-zero xs)
-    ∙ parents_leaf b (leaf_in (get_or xs 0 None)) i ks g
 
 module _ (b : ℕ) (c : Option Parent) (l r : Term) (i : ℕ) (ks : List (List ℕ)) (g : List ℕ) where
   pub parents_left : i < b + width l → path_parents b (Branch c l r) i ks g ≡ option_to_list (parent_beside (b + width l) r ks g) ++ path_parents b l i (keys_beside (b + width l) r ks) (hash_beside (b + width l) r ks g)
@@ -95,50 +76,6 @@ module _ (b : ℕ) (c : Option Parent) (l r : Term) (i : ℕ) (ks : List (List �
   pub parents_right : b + width l ≤ i → path_parents b (Branch c l r) i ks g ≡ option_to_list (parent_beside b l ks g) ++ path_parents (b + width l) r i (keys_beside b l ks) (hash_beside b l ks g)
   unfolding path_parents
   parents_right ge = cond-false _ _ _ (le-ltb i (b + width l) ge)
-
-module _ (b h m i : ℕ) (xs : List (Option Node)) (n : Option Node) (parts : InParts h m xs n) where
-  pub length_in_left : i < b + (m / 2 + 1) → path_length b (term_of h xs) i ≡ cond (is_reached (b + (m / 2 + 1)) (right_side h m xs)) 1 0 + path_length b (left_side h m xs) i
-  length_in_left lt =
-      let w = parts.left_width in
-      ap (λ t. path_length b t i) parts.is
-      ∙ path_length_left b (parent_in n) (left_side h m xs) (right_side h m xs) i (omega arith)
-      ∙ ap (λ k. cond (is_reached (b + k) (right_side h m xs)) 1 0 + path_length b (left_side h m xs) i) w
-
-  pub length_in_right : b + (m / 2 + 1) ≤ i → path_length b (term_of h xs) i ≡ cond (is_reached b (left_side h m xs)) 1 0 + path_length (b + (m / 2 + 1)) (right_side h m xs) i
-  length_in_right ge =
-      let w = parts.left_width in
-      ap (λ t. path_length b t i) parts.is
-      ∙ path_length_right b (parent_in n) (left_side h m xs) (right_side h m xs) i (omega arith)
-      ∙ ap (λ k. cond (is_reached b (left_side h m xs)) 1 0 + path_length (b + k) (right_side h m xs) i) w
-
-  module _ (ks : List (List ℕ)) (g : List ℕ) where
-    pub hash_in_left : i < b + (m / 2 + 1) → path_hash b (term_of h xs) i ks g ≡ path_hash b (left_side h m xs) i (keys_beside (b + (m / 2 + 1)) (right_side h m xs) ks) (hash_beside (b + (m / 2 + 1)) (right_side h m xs) ks g)
-    hash_in_left lt =
-        let w = parts.left_width in
-        ap (λ t. path_hash b t i ks g) parts.is
-        ∙ path_hash_left b (parent_in n) (left_side h m xs) (right_side h m xs) i ks g (omega arith)
-        ∙ ap (λ k. path_hash b (left_side h m xs) i (keys_beside (b + k) (right_side h m xs) ks) (hash_beside (b + k) (right_side h m xs) ks g)) w
-
-    pub hash_in_right : b + (m / 2 + 1) ≤ i → path_hash b (term_of h xs) i ks g ≡ path_hash (b + (m / 2 + 1)) (right_side h m xs) i (keys_beside b (left_side h m xs) ks) (hash_beside b (left_side h m xs) ks g)
-    hash_in_right ge =
-        let w = parts.left_width in
-        ap (λ t. path_hash b t i ks g) parts.is
-        ∙ path_hash_right b (parent_in n) (left_side h m xs) (right_side h m xs) i ks g (omega arith)
-        ∙ ap (λ k. path_hash (b + k) (right_side h m xs) i (keys_beside b (left_side h m xs) ks) (hash_beside b (left_side h m xs) ks g)) w
-
-    pub parents_in_left : i < b + (m / 2 + 1) → path_parents b (term_of h xs) i ks g ≡ option_to_list (parent_beside (b + (m / 2 + 1)) (right_side h m xs) ks g) ++ path_parents b (left_side h m xs) i (keys_beside (b + (m / 2 + 1)) (right_side h m xs) ks) (hash_beside (b + (m / 2 + 1)) (right_side h m xs) ks g)
-    parents_in_left lt =
-        let w = parts.left_width in
-        ap (λ t. path_parents b t i ks g) parts.is
-        ∙ parents_left b (parent_in n) (left_side h m xs) (right_side h m xs) i ks g (omega arith)
-        ∙ ap (λ k. option_to_list (parent_beside (b + k) (right_side h m xs) ks g) ++ path_parents b (left_side h m xs) i (keys_beside (b + k) (right_side h m xs) ks) (hash_beside (b + k) (right_side h m xs) ks g)) w
-
-    pub parents_in_right : b + (m / 2 + 1) ≤ i → path_parents b (term_of h xs) i ks g ≡ option_to_list (parent_beside b (left_side h m xs) ks g) ++ path_parents (b + (m / 2 + 1)) (right_side h m xs) i (keys_beside b (left_side h m xs) ks) (hash_beside b (left_side h m xs) ks g)
-    parents_in_right ge =
-        let w = parts.left_width in
-        ap (λ t. path_parents b t i ks g) parts.is
-        ∙ parents_right b (parent_in n) (left_side h m xs) (right_side h m xs) i ks g (omega arith)
-        ∙ ap (λ k. option_to_list (parent_beside b (left_side h m xs) ks g) ++ path_parents (b + k) (right_side h m xs) i (keys_beside b (left_side h m xs) ks) (hash_beside b (left_side h m xs) ks g)) w
 
 -- ---- writing
 

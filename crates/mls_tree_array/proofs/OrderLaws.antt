@@ -7,7 +7,7 @@ use Rattle.mls_leaf.specs.declared.node.Node.{Node}
 use Rattle.mls_leaf.specs.declared.node.Node.TheVariants.{Leaf as in_leaf, Parent as in_parent}
 use Rattle.mls_treemath.specs.Paths.{nodes_in}
 use Rattle.mls_treemath.proofs.Sizes.{nodes_in-zero, nodes_in-suc, nodes_in_pos}
-use Rattle.mls_tree_model.specs.Arrays.{leaf_in, parent_in, leaf_cell, parent_cell, term_of, in_order, cut, to_nodes, may_stand, alternates, height_from, height_for, padded}
+use Rattle.mls_tree_model.specs.Arrays.{leaf_in, parent_in, leaf_cell, parent_cell, term_of, in_order, without_last_blanks, to_nodes, may_stand, alternates, height_from, height_for, with_padding}
 use Rattle.mls_tree_array.specs.Standing.{Stands}
 
 -- ---- cells
@@ -129,8 +129,8 @@ pub height_for-holds : (n : ℕ) → n ≤ nodes_in (height_for n)
 unfolding height_for
 height_for-holds n = height_from-holds n 0 n (let e : n + 0 ≡ n = omega arith in let d = high_enough (n + 0) in omega arith)
 
-pub length-padded : (xs : List (Option Node)) → length (padded xs) ≡ nodes_in (height_for (length xs))
-unfolding padded
+pub length-padded : (xs : List (Option Node)) → length (with_padding xs) ≡ nodes_in (height_for (length xs))
+unfolding with_padding
 length-padded xs =
     let room = height_for-holds (length xs) in
     length-append xs (replicate (nodes_in (height_for (length xs)) - length xs) None)
@@ -142,8 +142,8 @@ unfolding alternates
 alternates-blanks zero even = refl
 alternates-blanks (suc n) even = alternates-blanks n (not even)
 
-pub alternates-padded : (xs : List (Option Node)) → alternates true xs ≡ true → alternates true (padded xs) ≡ true
-unfolding padded
+pub alternates-padded : (xs : List (Option Node)) → alternates true xs ≡ true → alternates true (with_padding xs) ≡ true
+unfolding with_padding
 alternates-padded xs alternating =
     let blanks : List (Option Node) = replicate (nodes_in (height_for (length xs)) - length xs) None in
     alternates-append true xs blanks
@@ -151,11 +151,11 @@ alternates-padded xs alternating =
     ∙ alternates-blanks (nodes_in (height_for (length xs)) - length xs) (on_by (length xs) true)
 
 -- nodes in their places stand for a tree once they are padded
-pub Stands-padded : (xs : List (Option Node)) → alternates true xs ≡ true → Stands (height_for (length xs)) (padded xs)
+pub Stands-padded : (xs : List (Option Node)) → alternates true xs ≡ true → Stands (height_for (length xs)) (with_padding xs)
 Stands-padded xs alternating =
-    Stands-from_alternating (height_for (length xs)) (padded xs) (length-padded xs) (alternates-padded xs alternating)
+    Stands-from_alternating (height_for (length xs)) (with_padding xs) (length-padded xs) (alternates-padded xs alternating)
 
 -- what is sent of a tree
-pub to_nodes-standing : (h : ℕ) (xs : List (Option Node)) → Stands h xs → to_nodes (term_of h xs) ≡ cut xs
+pub to_nodes-standing : (h : ℕ) (xs : List (Option Node)) → Stands h xs → to_nodes (term_of h xs) ≡ without_last_blanks xs
 unfolding to_nodes
-to_nodes-standing h xs stands = ap cut stands.order
+to_nodes-standing h xs stands = ap without_last_blanks stands.order

@@ -1,37 +1,25 @@
 -- Tree hashes of original trees, by the root and its sides.
-use Rattle.std.proofs.Common.{◌≡◌, ℕ, ◌+◌, ◌/◌, true, false, not, ◌&&◌, List, [], ◌∷◌, get_or, Option, Some, None, sym, ◌∙◌, ap, refl, arith}
+use Rattle.std.proofs.Common.{◌≡◌, ℕ, ◌+◌, true, false, not, ◌&&◌, if◌then◌else◌, List, [], ◌∷◌, Option, Some, None, sym, ◌∙◌, ap, refl, arith}
 use Rattle.std.specs.List.{list_all}
 use Rattle.std.proofs.lemmas.Bool.{and_parts, cond-true, cond-false}
 use Rattle.mls_leaf.specs.Parent.{Parent}
-use Rattle.mls_leaf.specs.declared.node.Node.{Node}
+use Rattle.mls_leaf.specs.declared.leaf.LeafNode.{LeafNode}
 use Rattle.mls_tree_model.specs.Sets.{has, less, same_bytes}
 use Rattle.mls_tree_model.specs.Term.{Term, Leaf, Branch, width}
 use Rattle.mls_tree_model.specs.Inputs.{leaf_hash, branch_hash}
 use Rattle.mls_tree_model.specs.Hashes.{tree_hash, unlist_leaves, original_tree}
-use Rattle.mls_tree_model.specs.Arrays.{leaf_in, parent_in, term_of}
 use Rattle.mls_tree_model.proofs.Equations.{tree_hash_leaf, tree_hash_branch, original_leaf, original_branch}
-use Rattle.mls_tree_model.proofs.ArrayLaws.{term_of-zero}
 use Rattle.mls_tree_model.proofs.CountLaws.{bytes_true}
 use Rattle.mls_tree_array.specs.Witnesses.{unmerged_leaves_of}
-use Rattle.mls_tree_array.proofs.Readings.{left_side, right_side, InParts}
+use Rattle.mls_tree_array.specs.Subtrees.{Subtree, IsOver}
 
-pub added_leaf : (us : List ℕ) (b h : ℕ) (xs : List (Option Node)) → h ≡ 0 → has us b ≡ true → tree_hash b (original_tree us b (term_of h xs)) ≡ leaf_hash b None
-added_leaf us b h xs low there =
-    ap (λ j. tree_hash b (original_tree us b (term_of j xs))) low
-    ∙ ap (λ t. tree_hash b (original_tree us b t)) (term_of-zero xs)
-    ∙ ap (tree_hash b) (original_leaf b (leaf_in (get_or xs 0 None)) us)
-    ∙ ap (λ v. tree_hash b (Leaf v)) (cond-true _ _ _ there)
-    ∙ tree_hash_leaf b None
+pub added_leaf : (us : List ℕ) (b : ℕ) (v : Option LeafNode) → has us b ≡ true → tree_hash b (original_tree us b (Leaf v)) ≡ leaf_hash b None
+added_leaf us b v there =
+    ap (tree_hash b) (original_leaf b v us) ∙ ap (λ w. tree_hash b (Leaf w)) (cond-true _ _ _ there) ∙ tree_hash_leaf b None
 
 -- where a leaf isn't among them, its hash stays
-pub same_leaf : (us : List ℕ) (b h : ℕ) (xs : List (Option Node)) → h ≡ 0 → has us b ≡ false → tree_hash b (term_of h xs) ≡ tree_hash b (original_tree us b (term_of h xs))
-same_leaf us b h xs low gone =
-    ap (λ j. tree_hash b (term_of j xs)) low
-    ∙ ap (tree_hash b) (term_of-zero xs)
-    ∙ ap (λ v. tree_hash b (Leaf v)) (sym (cond-false _ _ _ gone))
-    ∙ ap (tree_hash b) (sym (original_leaf b (leaf_in (get_or xs 0 None)) us))
-    ∙ ap (λ t. tree_hash b (original_tree us b t)) (sym (term_of-zero xs))
-    ∙ ap (λ j. tree_hash b (original_tree us b (term_of j xs))) (sym low)
+pub same_leaf : (us : List ℕ) (b : ℕ) (v : Option LeafNode) → has us b ≡ false → tree_hash b (Leaf v) ≡ tree_hash b (original_tree us b (Leaf v))
+same_leaf us b v gone = ap (λ w. tree_hash b (Leaf w)) (sym (cond-false _ _ _ gone)) ∙ ap (tree_hash b) (sym (original_leaf b v us))
 
 -- and a list that has none of them stays
 less_kept : (us xs : List ℕ) → list_all (λ u. not (has us u)) xs ≡ true → less us xs ≡ xs
@@ -61,12 +49,18 @@ unfolding width original_tree
 width-original_tree us b (Leaf v) = refl
 width-original_tree us b (Branch c l r) = omega (arith, width-original_tree us b l, width-original_tree us (b + width l) r)
 
-pub original_sides : (us : List ℕ) (b h m : ℕ) (xs : List (Option Node)) (n : Option Node) → InParts h m xs n → tree_hash b (original_tree us b (term_of h xs)) ≡ branch_hash (unlist_leaves us (parent_in n)) (tree_hash b (original_tree us b (left_side h m xs))) (tree_hash (b + (m / 2 + 1)) (original_tree us (b + (m / 2 + 1)) (right_side h m xs)))
-original_sides us b h m xs n parts =
-    let l = left_side h m xs in
-    let r = right_side h m xs in
-    ap (λ t. tree_hash b (original_tree us b t)) parts.is
-    ∙ ap (tree_hash b) (original_branch b (parent_in n) l r us)
-    ∙ tree_hash_branch b (unlist_leaves us (parent_in n)) (original_tree us b l) (original_tree us (b + width l) r)
-    ∙ ap (λ w. branch_hash (unlist_leaves us (parent_in n)) (tree_hash b (original_tree us b l)) (tree_hash (b + w) (original_tree us (b + width l) r))) (width-original_tree us b l)
-    ∙ ap (λ w. branch_hash (unlist_leaves us (parent_in n)) (tree_hash b (original_tree us b l)) (tree_hash (b + w) (original_tree us (b + w) r))) parts.left_width
+pub original_sides : (us : List ℕ) (t l : Subtree) (c : Option Parent) (r : Subtree) → IsOver t l c r → tree_hash t.first (original_tree us t.first t.term) ≡ branch_hash (unlist_leaves us c) (tree_hash l.first (original_tree us l.first l.term)) (tree_hash r.first (original_tree us r.first r.term))
+original_sides us t l c r over =
+    rw (over.is, over.left_first, over.right_first)
+    (ap (tree_hash t.first) (original_branch t.first c l.term r.term us)
+    ∙ tree_hash_branch t.first (unlist_leaves us c) (original_tree us t.first l.term) (original_tree us (t.first + width l.term) r.term)
+    ∙ ap (λ w. branch_hash (unlist_leaves us c) (tree_hash t.first (original_tree us t.first l.term)) (tree_hash (t.first + w) (original_tree us (t.first + width l.term) r.term))) (width-original_tree us t.first l.term))
+
+pub hash_sides : (t l : Subtree) (c : Option Parent) (r : Subtree) → IsOver t l c r → tree_hash t.first t.term ≡ branch_hash c (tree_hash l.first l.term) (tree_hash r.first r.term)
+hash_sides t l c r over = rw (over.is, over.left_first, over.right_first) (tree_hash_branch t.first c l.term r.term)
+
+-- ---- the same of all nodes hashed again
+
+pub leaf_original : (us : List ℕ) (t : Subtree) (v : Option LeafNode) → t.term ≡ Leaf v → tree_hash t.first (original_tree us t.first t.term) ≡ leaf_hash t.first (if has us t.first then None else v)
+leaf_original us t v is =
+    rw is (ap (tree_hash t.first) (original_leaf t.first v us) ∙ tree_hash_leaf t.first (if has us t.first then None else v))

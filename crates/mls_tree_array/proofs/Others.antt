@@ -109,7 +109,7 @@ find_here p x xs e = rw e refl
 pub find_later : (p : ℕ → Bool) (x : ℕ) (xs : List ℕ) → p x ≡ false → find p (x ∷ xs) ≡ find p xs
 find_later p x xs e = rw e refl
 
-find_none : (p : ℕ → Bool) (xs : List ℕ) (x : ℕ) → find p xs ≡ None → has xs x ≡ true → p x ≡ false
+pub find_none : (p : ℕ → Bool) (xs : List ℕ) (x : ℕ) → find p xs ≡ None → has xs x ≡ true → p x ≡ false
 unfolding has
 find_none p [] x none e = absurd (true≢false (sym e))
 find_none p (y ∷ ys) x none e =
@@ -125,7 +125,7 @@ find_none p (y ∷ ys) x none e =
     impossible : (y : ℕ) → Some y ≡ None → ⊥
     impossible y e = cc
 
-find_some : (p : ℕ → Bool) (xs : List ℕ) (d : ℕ) → find p xs ≡ Some d → (has xs d ≡ true) × (p d ≡ true)
+pub find_some : (p : ℕ → Bool) (xs : List ℕ) (d : ℕ) → find p xs ≡ Some d → (has xs d ≡ true) × (p d ≡ true)
 unfolding has
 find_some p [] d some = absurd (impossible some)
   where
@@ -148,11 +148,11 @@ given f None = false
 given f (Some d) = f d
 
 -- where a list is the other nodes, it doesn't have this one, and has all the others
-off : (ls xs : List ℕ) (d : ℕ) → is_same_set ls (others d xs) ≡ true → has ls d ≡ false
+pub off : (ls xs : List ℕ) (d : ℕ) → is_same_set ls (others d xs) ≡ true → has ls d ≡ false
 off ls xs d same =
     set_at ls (others d xs) same d ∙ has-filter (λ x. not (x == d)) xs d ∙ and_right (has xs d) _ (ap not (eqb_refl d))
 
-one : (ls xs : List ℕ) (d x : ℕ) → is_same_set ls (others x xs) ≡ true → has xs d ≡ true → has ls d ≡ false → d ≡ x
+pub one : (ls xs : List ℕ) (d x : ℕ) → is_same_set ls (others x xs) ≡ true → has xs d ≡ true → has ls d ≡ false → d ≡ x
 one ls xs d x same there out =
     elim (cases_Bool (d == x)) [
       | inl k ↦ eqb-true d x k

@@ -6,13 +6,14 @@ use Rattle.mls_leaf.specs.declared.node.Node.{Node}
 use Rattle.mls_treemath.specs.Paths.{nodes_in}
 use Rattle.mls_tree_model.specs.Term.{Branch}
 use Rattle.mls_tree_model.specs.Edits.{put}
-use Rattle.mls_tree_model.specs.Arrays.{leaf_in, parent_in, leaf_cell, term_of, in_order, HasMiddle}
+use Rattle.mls_tree_model.specs.Arrays.{leaf_in, parent_in, leaf_cell, term_of, in_order}
 use Rattle.mls_tree_model.proofs.Equations.{put_leaf, put_left, put_right}
 use Rattle.mls_tree_array.specs.Standing.{Stands}
 use Rattle.mls_tree_model.proofs.ArrayLaws.{width-term_of}
 use Rattle.mls_tree_array.proofs.StandingLaws.{in_order-leaf}
 use Rattle.mls_tree_model.proofs.ArrayLaws.{term_of-zero}
-use Rattle.mls_tree_array.proofs.Parts.{split, left_of_set, right_of_set}
+use Rattle.mls_tree_model.specs.Laws.{HasMiddle}
+use Rattle.mls_tree_array.proofs.Middles.{split, left_of_set, right_of_set}
 use Rattle.mls_tree_array.proofs.Standings.{half, with_left, with_right, one_set}
 
 pub put_one : (h b i : ℕ) (xs : List (Option Node)) (x : Option LeafNode) (c : Option Node) → h ≡ 0 → length xs ≡ nodes_in h → c ≡ leaf_cell x → set xs 0 c ≡ in_order (put b (term_of h xs) i x)

@@ -5,9 +5,10 @@ use Rattle.mls_leaf.specs.declared.node.Node.{Node}
 use Rattle.mls_treemath.specs.Paths.{nodes_in}
 use Rattle.mls_treemath.proofs.Sizes.{nodes_in_pos}
 use Rattle.mls_tree_model.specs.Term.{Term, Leaf, Branch, width, size}
-use Rattle.mls_tree_model.specs.Arrays.{leaf_in, parent_in, term_of, HasMiddle}
+use Rattle.mls_tree_model.specs.Arrays.{leaf_in, parent_in, term_of}
 use Rattle.mls_tree_model.proofs.ArrayLaws.{term_of-zero, size-term_of, width-term_of}
-use Rattle.mls_tree_array.proofs.Parts.{split, left_len, right_len}
+use Rattle.mls_tree_model.specs.Laws.{HasMiddle}
+use Rattle.mls_tree_array.proofs.Middles.{split, left_len, right_len}
 
 -- ---- its root
 

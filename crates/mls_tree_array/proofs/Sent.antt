@@ -6,7 +6,7 @@ use Rattle.std.proofs.lemmas.Bool.{true≢false}
 use Rattle.std.proofs.Math.Pow.{pow_mono}
 use Rattle.mls_leaf.specs.declared.node.Node.{Node}
 use Rattle.mls_treemath.specs.Paths.{nodes_in}
-use Rattle.mls_tree_model.specs.Arrays.{before, cut, has_last, may_stand, alternates, height_for}
+use Rattle.mls_tree_model.specs.Arrays.{before, without_last_blanks, has_last, may_stand, alternates, height_for}
 use Rattle.mls_tree_model.proofs.ArrayLaws.{nodes_in-leaves, least_height}
 
 -- ---- the last node
@@ -29,8 +29,8 @@ has_last-lookup (c ∷ cs) o e =
 
 -- ---- what is cut at the end
 
-cut-blank : (xs : List (Option Node)) → cut (xs ++ None ∷ []) ≡ cut xs
-unfolding cut
+cut-blank : (xs : List (Option Node)) → without_last_blanks (xs ++ None ∷ []) ≡ without_last_blanks xs
+unfolding without_last_blanks
 cut-blank [] = refl
 cut-blank (c ∷ xs) = ap (before c) (cut-blank xs)
 
@@ -39,13 +39,13 @@ before-more None [] d = refl
 before-more None (x ∷ xs) d = refl
 before-more (Some n) xs d = refl
 
-cut-taken : (xs : List (Option Node)) (n : Node) → cut (xs ++ Some n ∷ []) ≡ xs ++ Some n ∷ []
-unfolding cut
+cut-taken : (xs : List (Option Node)) (n : Node) → without_last_blanks (xs ++ Some n ∷ []) ≡ xs ++ Some n ∷ []
+unfolding without_last_blanks
 cut-taken [] n = refl
 cut-taken (c ∷ xs) n = ap (before c) (cut-taken xs n) ∙ before-more c xs (Some n)
 
-pub cut-none : cut [] ≡ []
-unfolding cut
+pub cut-none : without_last_blanks [] ≡ []
+unfolding without_last_blanks
 cut-none = refl
 
 -- the first n nodes, with the last of them
@@ -56,14 +56,14 @@ front xs n x some within is =
     ∙ take_more xs (n - 1) None (omega arith)
     ∙ ap (λ y. take (n - 1) xs ++ y ∷ []) (sym (get_or_read xs (n - 1) x (omega arith) is None))
 
-pub cut-front : (xs : List (Option Node)) (n : ℕ) (x : Option Node) → 0 < n → n ≤ length xs → x ≡ get_or xs (n - 1) x → is_some x ≡ true → take n xs ≡ cut (take n xs)
+pub cut-front : (xs : List (Option Node)) (n : ℕ) (x : Option Node) → 0 < n → n ≤ length xs → x ≡ get_or xs (n - 1) x → is_some x ≡ true → take n xs ≡ without_last_blanks (take n xs)
 cut-front xs n None some within is taken = absurd (true≢false (sym taken))
 cut-front xs n (Some y) some within is taken =
     let e = front xs n (Some y) some within is in
-    e ∙ sym (cut-taken (take (n - 1) xs) y) ∙ ap cut (sym e)
+    e ∙ sym (cut-taken (take (n - 1) xs) y) ∙ ap without_last_blanks (sym e)
 
-pub cut-back : (xs : List (Option Node)) (n : ℕ) (x : Option Node) → 0 < n → n ≤ length xs → x ≡ get_or xs (n - 1) x → is_some x ≡ false → cut (take (n - 1) xs) ≡ cut (take n xs)
-cut-back xs n None some within is blank = sym (ap cut (front xs n None some within is) ∙ cut-blank (take (n - 1) xs))
+pub cut-back : (xs : List (Option Node)) (n : ℕ) (x : Option Node) → 0 < n → n ≤ length xs → x ≡ get_or xs (n - 1) x → is_some x ≡ false → without_last_blanks (take (n - 1) xs) ≡ without_last_blanks (take n xs)
+cut-back xs n None some within is blank = sym (ap without_last_blanks (front xs n None some within is) ∙ cut-blank (take (n - 1) xs))
 cut-back xs n (Some y) some within is blank = absurd (true≢false blank)
 
 -- ---- the least height

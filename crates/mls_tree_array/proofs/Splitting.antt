@@ -1,5 +1,5 @@
 -- A rising list in two parts, and an original tree by the leaves that lie in it.
-use Rattle.std.proofs.Common.{◌≡◌, ◌≢◌, ℕ, zero, suc, ◌+◌, ◌/◌, ◌<◌, ◌≤◌, Bool, true, false, ◌||◌, ◌==◌, cond, List, [], ◌∷◌, length, get_or, take, drop, Result, Ok, Err, Option, Some, None, refl, sym, ap, ◌∙◌, arith, nat_cmp, length-take}
+use Rattle.std.proofs.Common.{◌≡◌, ◌≢◌, ℕ, zero, suc, ◌+◌, ◌<◌, ◌≤◌, Bool, true, false, ◌||◌, ◌==◌, cond, List, [], ◌∷◌, length, get_or, take, drop, Result, Ok, Err, Option, Some, None, refl, sym, ap, ◌∙◌, arith, nat_cmp, length-take}
 use Rattle.std.specs.Prelude.{nat_le}
 use Rattle.std.specs.List.Sorted.{IsBinarySearchResult}
 use Rattle.std.proofs.lemmas.Bool.{and_parts, leb-true, ne_eqb, or_left, or_right}
@@ -9,7 +9,6 @@ use Rattle.std.proofs.Math.Bool.{or-false}
 use Rattle.mls_leaf.specs.Parent.{Parent, rises_from}
 use Rattle.mls_leaf.proofs.ParentLaws.{rises_from-nil, rises_from-cons, rises_from-more}
 use Rattle.mls_leaf.proofs.RisingLaws.{above_front, no_less, from_lower}
-use Rattle.mls_leaf.specs.declared.node.Node.{Node}
 use Rattle.mls_tree_model.specs.Term.{Term, Leaf, Branch, width}
 use Rattle.mls_tree_model.specs.Sets.{has, less}
 use Rattle.mls_tree_model.proofs.SetLaws.{has-append, eqb_refl}
@@ -17,9 +16,9 @@ use Rattle.mls_tree_model.specs.Lists.{parent_passes, all_parents, lists_here}
 use Rattle.mls_tree_model.proofs.NamedLaws.{lists_bound}
 use Rattle.mls_tree_model.proofs.ParentLaws.{parents_parts}
 use Rattle.mls_tree_model.specs.Hashes.{tree_hash, unlist_leaves, original_tree}
-use Rattle.mls_tree_model.specs.Arrays.{term_of}
 use Rattle.mls_tree_array.specs.Splits.{Splits}
-use Rattle.mls_tree_array.proofs.Readings.{left_side, right_side, InParts}
+use Rattle.mls_tree_array.specs.Subtrees.{Subtree, IsOver}
+use Rattle.mls_tree_array.proofs.Sides.{second}
 
 -- ---- its parts rise
 
@@ -111,17 +110,17 @@ original_same us vs b (Branch c l r) h same =
     ∙ ap (λ x. Branch (unlist_leaves vs c) (original_tree vs b l) x) (original_same us vs (b + width l) r p.2 (λ j low high. same j (omega arith) (omega arith)))
 
 -- so each side needs the leaves on it alone
-module _ (h m : ℕ) (xs : List (Option Node)) (n : Option Node) (parts : InParts h m xs n) (b : ℕ) (lists : all_parents lists_here b (term_of h xs) ≡ true) where
-  pub right_lists : (all_parents lists_here b (left_side h m xs) ≡ true) × (all_parents lists_here (b + (m / 2 + 1)) (right_side h m xs) ≡ true)
-  right_lists =
-      let p = parents_parts lists_here b _ (left_side h m xs) (right_side h m xs) (ap (all_parents lists_here b) (sym parts.is) ∙ lists) in
-      (p.1, ap (λ k. all_parents lists_here (b + k) (right_side h m xs)) (sym parts.left_width) ∙ p.2)
+module _ (t l : Subtree) (c : Option Parent) (r : Subtree) (over : IsOver t l c r) (lists : all_parents lists_here t.first t.term ≡ true) where
+  pub side_lists : (all_parents lists_here l.first l.term ≡ true) × (all_parents lists_here r.first r.term ≡ true)
+  side_lists =
+      let p = parents_parts lists_here t.first c l.term r.term (ap (all_parents lists_here t.first) (sym over.is) ∙ lists) in
+      (rw over.left_first p.1, rw over.right_first p.2)
 
-  pub left_original : (us : List ℕ) (k : ℕ) → Splits us (b + (m / 2 + 1)) k → tree_hash b (original_tree (take k us) b (left_side h m xs)) ≡ tree_hash b (original_tree us b (left_side h m xs))
+  pub left_original : (us : List ℕ) (k : ℕ) → Splits us r.first k → tree_hash l.first (original_tree (take k us) l.first l.term) ≡ tree_hash l.first (original_tree us l.first l.term)
   left_original us k splits =
-      let wide = parts.left_width in
-      ap (tree_hash b) (original_same (take k us) us b (left_side h m xs) right_lists.0 (λ j low high. sym (splits.before j (omega arith))))
+      let is = second t l c r over in
+      ap (tree_hash l.first) (original_same (take k us) us l.first l.term side_lists.0 (λ j low high. sym (splits.before j (omega arith))))
 
-  pub right_original : (us : List ℕ) (k : ℕ) → Splits us (b + (m / 2 + 1)) k → tree_hash (b + (m / 2 + 1)) (original_tree (drop k us) (b + (m / 2 + 1)) (right_side h m xs)) ≡ tree_hash (b + (m / 2 + 1)) (original_tree us (b + (m / 2 + 1)) (right_side h m xs))
+  pub right_original : (us : List ℕ) (k : ℕ) → Splits us r.first k → tree_hash r.first (original_tree (drop k us) r.first r.term) ≡ tree_hash r.first (original_tree us r.first r.term)
   right_original us k splits =
-      ap (tree_hash (b + (m / 2 + 1))) (original_same (drop k us) us (b + (m / 2 + 1)) (right_side h m xs) right_lists.1 (λ j low high. sym (splits.behind j low)))
+      ap (tree_hash r.first) (original_same (drop k us) us r.first r.term side_lists.1 (λ j low high. sym (splits.behind j low)))

@@ -1,13 +1,13 @@
 -- Laws: the list of a tree's nodes in order stands for that tree, also after each edit.
-use Rattle.std.proofs.Common.{◌≡◌, ℕ, zero, suc, ◌+◌, ◌<◌, ◌≤◌, true, List, [], ◌∷◌, ◌++◌, length, replicate, Option, None, refl, sym, ◌∙◌, ap, subst, arith, inl, inr, add-one}
-use Rattle.std.proofs.lemmas.Bool.{cases_lt}
-use Rattle.std.proofs.lemmas.List.{replicate-append-replicate}
+use Rattle.std.proofs.Common.{◌≡◌, ℕ, zero, suc, ◌+◌, ◌<◌, ◌≤◌, true, List, [], ◌∷◌, ◌++◌, length, take, replicate, Option, None, refl, sym, ◌∙◌, ap, subst, arith, inl, inr, add-one}
+use Rattle.std.proofs.lemmas.Bool.{cases_lt, cond_both, and_parts, true≢false}
+use Rattle.std.proofs.lemmas.List.{replicate-append-replicate, take_all, take-append-le}
 use Rattle.mls_leaf.specs.Parent.{Parent}
 use Rattle.mls_leaf.specs.declared.leaf.LeafNode.{LeafNode}
 use Rattle.mls_leaf.specs.declared.node.Node.{Node}
 use Rattle.mls_treemath.specs.Paths.{nodes_in}
 use Rattle.mls_treemath.proofs.Sizes.{nodes_in-zero, nodes_in-suc, nodes_in_up}
-use Rattle.mls_tree_model.specs.Term.{Term, Leaf, Branch, height, blanks, is_perfect}
+use Rattle.mls_tree_model.specs.Term.{Term, Leaf, Branch, height, blanks, has_leaf, is_perfect}
 use Rattle.mls_tree_model.specs.Edits.{put, enter, grow, trim}
 use Rattle.mls_tree_model.specs.Arrays.{leaf_cell, parent_cell, term_of, in_order}
 use Rattle.mls_tree_model.proofs.Equations.{grow_is}
@@ -99,3 +99,37 @@ stands_for-trim h k xs ys is size =
     let low = perfect-trim h (term_of h xs) (perfect-term_of h xs) in
     let many : nodes_in low.0 ≡ nodes_in k = sym (length-perfect low.0 (trim (term_of h xs)) low.1) ∙ ap length (sym is) ∙ size in
     stands_for k _ ys (subst (λ j. is_perfect j (trim (term_of h xs)) ≡ true) (same_height low.0 k many) low.1) is
+
+-- ---- a trim keeps the first nodes
+
+trim_low : (t : Term) → height (trim t) ≤ height t
+unfolding trim height
+trim_low (Leaf v) = omega arith
+trim_low (Branch c l r) =
+    let low = trim_low l in
+    cond_both (has_leaf r) (Branch c l r) (trim l) (λ u. height u ≤ suc (height l)) (λ _. omega arith) (λ _. omega arith)
+
+trim_front : (h : ℕ) (t : Term) → is_perfect h t ≡ true → take (nodes_in (height (trim t))) (in_order t) ≡ in_order (trim t)
+unfolding trim is_perfect in_order height
+trim_front zero (Leaf v) p = ap (λ n. take n (leaf_cell v ∷ [])) nodes_in-zero
+trim_front (suc h) (Leaf v) p = absurd (true≢false (sym p))
+trim_front zero (Branch c l r) p = absurd (true≢false (sym p))
+trim_front (suc h) (Branch c l r) p =
+    let sides = and_parts (is_perfect h l) (is_perfect h r) p in
+    let whole : is_perfect (suc h) (Branch c l r) ≡ true = p in
+    let long = length-perfect (suc h) (Branch c l r) whole in
+    let high = height-perfect (suc h) (Branch c l r) whole in
+    let few = no_more_nodes (height (trim l)) (height l) (trim_low l) in
+    let left = length-perfect h l sides.0 in
+    let left_high = height-perfect h l sides.0 in
+    let same = ap nodes_in left_high in
+    let all = ap nodes_in high in
+    cond_both (has_leaf r) (Branch c l r) (trim l) (λ u. take (nodes_in (height u)) (in_order l ++ (parent_cell c ∷ in_order r)) ≡ in_order u)
+    (λ _. take_all (nodes_in (suc (height l))) (in_order l ++ (parent_cell c ∷ in_order r)) (omega arith))
+    (λ _. take-append-le (nodes_in (height (trim l))) (in_order l) (parent_cell c ∷ in_order r) (omega arith) ∙ trim_front h l sides.0)
+
+pub trimmed_front : (h n : ℕ) (xs : List (Option Node)) → Stands h xs → n ≡ height (trim (term_of h xs)) → take (nodes_in n) xs ≡ in_order (trim (term_of h xs))
+trimmed_front h n xs stands is =
+    ap (λ k. take (nodes_in k) xs) is
+    ∙ ap (take (nodes_in (height (trim (term_of h xs))))) (sym stands.order)
+    ∙ trim_front h (term_of h xs) (perfect-term_of h xs)

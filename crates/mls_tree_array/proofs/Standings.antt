@@ -7,11 +7,12 @@ use Rattle.mls_leaf.specs.declared.node.Node.{Node}
 use Rattle.mls_treemath.specs.Paths.{nodes_in}
 use Rattle.mls_treemath.proofs.Sizes.{nodes_in-zero}
 use Rattle.mls_tree_model.specs.Term.{Term, Branch}
-use Rattle.mls_tree_model.specs.Arrays.{parent_in, parent_cell, term_of, in_order, HasMiddle}
+use Rattle.mls_tree_model.specs.Arrays.{parent_in, parent_cell, term_of, in_order}
 use Rattle.mls_tree_array.specs.Standing.{Stands}
 use Rattle.mls_tree_model.proofs.ArrayLaws.{perfect-term_of}
+use Rattle.mls_tree_model.specs.Laws.{HasMiddle}
 use Rattle.mls_tree_array.proofs.StandingLaws.{in_order-branch, length-perfect}
-use Rattle.mls_tree_array.proofs.Parts.{split, left_len, right_len, left_of_set, right_of_set}
+use Rattle.mls_tree_array.proofs.Middles.{split, left_len, right_len, left_of_set, right_of_set}
 use Rattle.mls_tree_array.proofs.Pieces.{set_then_front, set_then_back}
 
 length-of_term : (h : ℕ) (xs : List (Option Node)) → length (in_order (term_of h xs)) ≡ nodes_in h

@@ -1,12 +1,11 @@
 -- Hashes on the way to a leaf, by the root and its sides.
-use Rattle.std.proofs.Common.{◌≡◌, ℕ, Bool, suc, ◌+◌, ◌-◌, ◌*◌, ◌/◌, ◌^◌, ◌<◌, ◌≤◌, true, List, [], ◌∷◌, ◌++◌, length, get_or, take, drop, set, Option, Some, None, refl, sym, ◌∙◌, ap, subst, arith, length-append, append_assoc}
+use Rattle.std.proofs.Common.{◌≡◌, ℕ, Bool, suc, ◌+◌, ◌-◌, ◌*◌, ◌/◌, ◌^◌, ◌<◌, ◌≤◌, true, List, [], ◌∷◌, ◌++◌, length, get_or, take, drop, set, Option, Some, refl, sym, ◌∙◌, ap, subst, arith, length-append, append_assoc}
 use Rattle.std.proofs.lemmas.List.{take_at, get_or_at}
 use Rattle.std.proofs.lemmas.Bool.{true≢false, and_parts}
 use Rattle.std.specs.Option.{option_to_list}
 use borrow.Rule.Slice.PartMut.{put_mid}
 use Rattle.mls_leaf.specs.Parent.{Parent}
 use Rattle.mls_leaf.specs.declared.leaf.LeafNode.{LeafNode}
-use Rattle.mls_leaf.specs.declared.node.Node.{Node}
 use Rattle.mls_treemath.specs.Paths.{nodes_in}
 use Rattle.mls_treemath.proofs.Sizes.{nodes_in-zero}
 use Rattle.mls_tree_model.specs.Term.{Term, Leaf, Branch, width, size, is_perfect}
@@ -14,11 +13,11 @@ use Rattle.mls_tree_model.specs.Inputs.{leaf_hash, branch_hash}
 use Rattle.mls_tree_model.specs.Resolution.{is_reached}
 use Rattle.mls_tree_model.specs.Hashes.{tree_hash}
 use Rattle.mls_tree_model.specs.Merge.{merge, parent_beside, keys_beside, hash_beside}
-use Rattle.mls_tree_model.specs.Arrays.{leaf_in, parent_in, term_of, HasMiddle}
 use Rattle.mls_tree_model.proofs.Equations.{tree_hash_leaf, tree_hash_branch, merge_leaf, merge_left, merge_right}
 use Rattle.mls_tree_model.proofs.MergeLaws.{width-merge}
 use Rattle.mls_tree_model.proofs.ShapeLaws.{width-perfect}
-use Rattle.mls_tree_model.proofs.ArrayLaws.{size-perfect, term_of-zero}
+use Rattle.mls_tree_model.proofs.ArrayLaws.{size-perfect}
+use Rattle.mls_tree_model.specs.Laws.{HasMiddle}
 use Rattle.mls_tree_array.specs.KeptHashes.{hashes_of}
 use Rattle.mls_tree_array.proofs.KeptLaws.{length-hashes_of, hashes_of_branch, right_part}
 use Rattle.mls_tree_array.specs.Merging.{path_parents, first_if, rest_if}
@@ -26,7 +25,7 @@ use Rattle.mls_tree_array.specs.WayHashes.{way_hashes, HashesMerged, PutsHashes}
 use Rattle.mls_tree_array.proofs.WayHashLaws.{way_hashes_leaf, way_hashes_left, way_hashes_right}
 use Rattle.mls_tree_array.proofs.KeptOrDropped.{one_set_to}
 use Rattle.mls_tree_array.proofs.Merged.{parents_left, parents_right, no_parents, none_below, first_made, rest_made}
-use Rattle.mls_tree_array.proofs.Readings.{left_side, right_side, InParts}
+use Rattle.mls_tree_array.specs.Subtrees.{Subtree, IsOver}
 use Rattle.mls_tree_array.proofs.Pieces.{set_then_front, set_then_back, front_then, back_then}
 
 -- ---- put
@@ -146,11 +145,11 @@ path_leaf b i v ps x g before is ks h made =
       ap (λ w. before ++ (w ∷ [])) hash ∙ ap (λ ys. before ++ ys) (sym (ap (λ t. way_hashes b t i) merged ∙ way_hashes_leaf b (Some x) i)),
     )
 
-pub made_one : (h b i : ℕ) (xs : List (Option Node)) (ps : List Parent) (x : LeafNode) (g : List ℕ) (before after : List (List ℕ)) → h ≡ 0 → g ≡ leaf_hash b (Some x) → after ≡ before ++ (g ∷ []) → HashesMerged b (term_of h xs) i ps x g before after
-made_one h b i xs ps x g before after low is all =
-    subst (λ ys. HashesMerged b (term_of h xs) i ps x g before ys) (sym all)
-    (subst (λ t. HashesMerged b t i ps x g before (before ++ (g ∷ []))) (sym (ap (λ k. term_of k xs) low ∙ term_of-zero xs))
-    (path_leaf b i (leaf_in (get_or xs 0 None)) ps x g before is))
+pub made_one : (t : Subtree) (v : Option LeafNode) (i : ℕ) (ps : List Parent) (x : LeafNode) (g : List ℕ) (before after : List (List ℕ)) → t.term ≡ Leaf v → g ≡ leaf_hash t.first (Some x) → after ≡ before ++ (g ∷ []) → HashesMerged t.first t.term i ps x g before after
+made_one t v i ps x g before after is hash all =
+    subst (λ ys. HashesMerged t.first t.term i ps x g before ys) (sym all)
+    (subst (λ s. HashesMerged t.first s i ps x g before (before ++ (g ∷ []))) (sym is)
+    (path_leaf t.first i v ps x g before hash))
 
 -- where the hashes below a new root were added, and its own is made of them
 module _ (b : ℕ) (c : Option Parent) (l r : Term) (i : ℕ) (ps qs : List Parent) (x : LeafNode) (v s g : List ℕ) (before mid : List (List ℕ)) (f : Bool) (p : Option Parent) (is_root : p ≡ first_if f ps) (are_rest : qs ≡ rest_if f ps) where
@@ -210,18 +209,18 @@ module _ (b : ℕ) (c : Option Parent) (l r : Term) (i : ℕ) (ps qs : List Pare
             ∙ ap (λ ys. before ++ ys) (sym (ap (λ t. way_hashes b t i) merged ∙ way_hashes_right b new l u i ge)),
       )
 
-module _ (h b m i : ℕ) (xs : List (Option Node)) (n : Option Node) (parts : InParts h m xs n) (ps qs : List Parent) (x : LeafNode) (v s g : List ℕ) (before mid after : List (List ℕ)) (f : Bool) (p : Option Parent) (is_root : p ≡ first_if f ps) (are_rest : qs ≡ rest_if f ps) (is_last : after ≡ mid ++ (g ∷ [])) where
-  whole : HashesMerged b (Branch (parent_in n) (left_side h m xs) (right_side h m xs)) i ps x g before (mid ++ (g ∷ [])) → HashesMerged b (term_of h xs) i ps x g before after
+module _ (t l : Subtree) (c : Option Parent) (r : Subtree) (over : IsOver t l c r) (i : ℕ) (ps qs : List Parent) (x : LeafNode) (v s g : List ℕ) (before mid after : List (List ℕ)) (f : Bool) (p : Option Parent) (is_root : p ≡ first_if f ps) (are_rest : qs ≡ rest_if f ps) (is_last : after ≡ mid ++ (g ∷ [])) where
+  whole : HashesMerged t.first (Branch c l.term r.term) i ps x g before (mid ++ (g ∷ [])) → HashesMerged t.first t.term i ps x g before after
   whole e =
-      subst (λ ys. HashesMerged b (term_of h xs) i ps x g before ys) (sym is_last)
-      (subst (λ t. HashesMerged b t i ps x g before (mid ++ (g ∷ []))) (sym parts.is) e)
+      subst (λ ys. HashesMerged t.first t.term i ps x g before ys) (sym is_last)
+      (subst (λ u. HashesMerged t.first u i ps x g before (mid ++ (g ∷ []))) (sym over.is) e)
 
-  pub made_in_left : i < b + (m / 2 + 1) → ((k : ℕ) → f ≡ is_reached k (right_side h m xs)) → s ≡ tree_hash (b + (m / 2 + 1)) (right_side h m xs) → HashesMerged b (left_side h m xs) i qs x v before mid → g ≡ branch_hash p v s → HashesMerged b (term_of h xs) i ps x g before after
+  pub made_in_left : i < r.first → ((k : ℕ) → f ≡ is_reached k r.term) → s ≡ tree_hash r.first r.term → HashesMerged l.first l.term i qs x v before mid → g ≡ branch_hash p v s → HashesMerged t.first t.term i ps x g before after
   made_in_left lt reached sibling below is =
-      let w = parts.left_width in
-      whole (left_made b (parent_in n) (left_side h m xs) (right_side h m xs) i ps qs x v s g before mid f p is_root are_rest (omega arith) (reached _) (sibling ∙ ap (λ k. tree_hash (b + k) (right_side h m xs)) (sym w)) below is)
+      let second = over.right_first in
+      whole (left_made t.first c l.term r.term i ps qs x v s g before mid f p is_root are_rest (omega arith) (reached _) (sibling ∙ ap (λ k. tree_hash k r.term) second) (subst (λ k. HashesMerged k l.term i qs x v before mid) over.left_first below) is)
 
-  pub made_in_right : b + (m / 2 + 1) ≤ i → ((k : ℕ) → f ≡ is_reached k (left_side h m xs)) → s ≡ tree_hash b (left_side h m xs) → HashesMerged (b + (m / 2 + 1)) (right_side h m xs) i qs x v before mid → g ≡ branch_hash p s v → HashesMerged b (term_of h xs) i ps x g before after
+  pub made_in_right : r.first ≤ i → ((k : ℕ) → f ≡ is_reached k l.term) → s ≡ tree_hash l.first l.term → HashesMerged r.first r.term i qs x v before mid → g ≡ branch_hash p s v → HashesMerged t.first t.term i ps x g before after
   made_in_right ge reached sibling below is =
-      let w = parts.left_width in
-      whole (right_made b (parent_in n) (left_side h m xs) (right_side h m xs) i ps qs x v s g before mid f p is_root are_rest (omega arith) (reached _) sibling (subst (λ k. HashesMerged (b + k) (right_side h m xs) i qs x v before mid) (sym w) below) is)
+      let second = over.right_first in
+      whole (right_made t.first c l.term r.term i ps qs x v s g before mid f p is_root are_rest (omega arith) (reached _) (sibling ∙ ap (λ k. tree_hash k l.term) over.left_first) (subst (λ k. HashesMerged k r.term i qs x v before mid) second below) is)

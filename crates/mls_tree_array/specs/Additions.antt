@@ -6,7 +6,7 @@ use Rattle.mls_tree_model.specs.Sets.{leaf_numbers}
 use Rattle.mls_tree_model.specs.Resolution.{resolution, is_reached}
 use Rattle.mls_tree_model.specs.Places.{resolution_at}
 use Rattle.mls_tree_model.specs.Way.{filtered_path, target_count, ciphertext_counts}
-use Rattle.mls_tree_model.specs.Arrays.{term_of}
+use Rattle.mls_tree_array.specs.Subtrees.{Subtree}
 
 -- from one list to the other these elements were added
 abbrev pub Adds : {A : Type 0} → List A → Vec A → Vec A → Type 0
@@ -20,23 +20,23 @@ PadsTo end old new = Adds (replicate (end - length old.items) None) old new
 abbrev pub AddsLeaves : List ℕ → Vec ℕ → Vec ℕ → Type 0
 AddsLeaves us old new = Adds (leaf_numbers us) old new
 
--- the resolution of a tree was added, whose first leaf is b (RFC 9420, 4.1.1)
-abbrev pub AddsResolution : ℕ → ℕ → List (Option Node) → Vec ℕ → Vec ℕ → Type 0
-AddsResolution h b nodes old new = Adds (resolution b (term_of h nodes)) old new
+-- the resolution of a tree was added (RFC 9420, 4.1.1)
+abbrev pub AddsResolution : Subtree → Vec ℕ → Vec ℕ → Type 0
+AddsResolution t old new = Adds (resolution t.first t.term) old new
 
--- the resolution of node x of a tree was added, whose first leaf is b
-abbrev pub AddsResolutionAt : ℕ → ℕ → List (Option Node) → ℕ → Vec ℕ → Vec ℕ → Type 0
-AddsResolutionAt h b nodes x old new = Adds (resolution_at b (term_of h nodes) x) old new
+-- the resolution of node x of a tree was added
+abbrev pub AddsResolutionAt : Subtree → ℕ → Vec ℕ → Vec ℕ → Type 0
+AddsResolutionAt t x old new = Adds (resolution_at t.first t.term x) old new
 
 -- the filtered direct path of leaf i was added (RFC 9420, 4.1.2)
-abbrev pub AddsFilteredPath : ℕ → ℕ → List (Option Node) → ℕ → Vec ℕ → Vec ℕ → Type 0
-AddsFilteredPath h b nodes i old new = Adds (filtered_path b (term_of h nodes) i) old new
+abbrev pub AddsFilteredPath : Subtree → ℕ → Vec ℕ → Vec ℕ → Type 0
+AddsFilteredPath t i old new = Adds (filtered_path t.first t.term i) old new
 
 -- where a side is reached, its number of nodes to seal to was added
-abbrev pub AddsCount : ℕ → ℕ → List (Option Node) → List ℕ → Vec ℕ → Vec ℕ → Type 0
-AddsCount h b side added old new =
-    Adds (if is_reached b (term_of h side) then target_count added b (term_of h side) ∷ [] else []) old new
+abbrev pub AddsCount : Subtree → List ℕ → Vec ℕ → Vec ℕ → Type 0
+AddsCount side added old new =
+    Adds (if is_reached side.first side.term then target_count added side.first side.term ∷ [] else []) old new
 
 -- the numbers of ciphertexts on the path of leaf i were added (RFC 9420, 7.6)
-abbrev pub AddsCounts : ℕ → ℕ → List (Option Node) → ℕ → List ℕ → Vec ℕ → Vec ℕ → Type 0
-AddsCounts h b nodes i added old new = Adds (ciphertext_counts b (term_of h nodes) i added) old new
+abbrev pub AddsCounts : Subtree → ℕ → List ℕ → Vec ℕ → Vec ℕ → Type 0
+AddsCounts t i added old new = Adds (ciphertext_counts t.first t.term i added) old new

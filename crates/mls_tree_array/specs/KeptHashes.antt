@@ -4,8 +4,6 @@ use Rattle.std.specs.List.{count_by}
 use Rattle.mls_tree_model.specs.Term.{Term, Leaf, Branch, width, size, is_perfect}
 use Rattle.mls_tree_model.specs.Way.{way}
 use Rattle.mls_tree_model.specs.Hashes.{tree_hash}
-use Rattle.mls_tree_model.specs.Arrays.{term_of}
-use Rattle.mls_leaf.specs.declared.node.Node.{Node}
 
 -- the tree hashes of all subtrees of a tree whose first leaf is b (RFC 9420, 7.8), each in the place of its root
 unfoldable pub hashes_of : ℕ → Term → List (Option (List ℕ))
@@ -58,8 +56,3 @@ DropsHashes n b i old new = (t : Term) → is_perfect n t ≡ true → new ≡ d
 -- from one state to the other places of so many cold nodes were added
 abbrev pub AddsCold : ℕ → KeptHashes → KeptHashes → Type 0
 AddsCold count old new = new ≡ record old { kept = old.kept ++ replicate count None }
-
--- a hash is that of each tree of which these are the tree hashes of all subtrees
-abbrev pub IsRootHash : List (Option (List ℕ)) → List ℕ → Type 0
-IsRootHash kept hash =
-    (b h : ℕ) (xs : List (Option Node)) → kept ≡ hashes_of b (term_of h xs) → hash ≡ tree_hash b (term_of h xs)

@@ -14,3 +14,9 @@ pub mod RightLists
 pub mod Originals
 pub mod Validity
 pub mod PathParents
+pub mod Subtrees
+pub mod SubtreeParts
+pub mod Codes
+pub mod HashedParts
+pub mod Chains
+pub mod FirstParents

@@ -10,6 +10,7 @@ use Rattle.mls_tree_model.specs.Merge.{merge, path_hash, parent_beside, keys_bes
 use Rattle.mls_tree_model.specs.Arrays.{term_of, in_order}
 use Rattle.mls_tree_array.specs.declared.merging.MergedPath.{MergedPath}
 use Rattle.mls_tree_array.specs.Additions.{Adds}
+use Rattle.mls_tree_array.specs.Subtrees.{Subtree}
 use Rattle.mls_tree_array.specs.Merging.{path_parents, hash_bytes}
 
 -- a parent that a merge makes: its list is empty
@@ -17,28 +18,28 @@ abbrev pub merged_parent : List ℕ → Option (List ℕ) → Parent
 merged_parent key hash = record { encryption_key = key; parent_hash = hash_bytes hash; unmerged_leaves = [] }
 
 -- the keys, the lowest first, that are left below a parent with this other side
-abbrev pub AreKeysBelow : ℕ → ℕ → List (Option Node) → List (List ℕ) → List (List ℕ) → Type 0
-AreKeysBelow h b side keys below = reverse below ≡ keys_beside b (term_of h side) (reverse keys)
+abbrev pub AreKeysBelow : Subtree → List (List ℕ) → List (List ℕ) → Type 0
+AreKeysBelow side keys below = reverse below ≡ keys_beside side.first side.term (reverse keys)
 
 -- the parent hash that is handed down below a parent with this other side
-abbrev pub IsHashBelow : ℕ → ℕ → List (Option Node) → List (List ℕ) → Option (List ℕ) → Option (List ℕ) → Type 0
-IsHashBelow h b side keys above =
-    λ below. hash_bytes below ≡ hash_beside b (term_of h side) (reverse keys) (hash_bytes above)
+abbrev pub IsHashBelow : Subtree → List (List ℕ) → Option (List ℕ) → Option (List ℕ) → Type 0
+IsHashBelow side keys above =
+    λ below. hash_bytes below ≡ hash_beside side.first side.term (reverse keys) (hash_bytes above)
 
 -- the parent hash that reaches leaf i, by the one above the tree
-abbrev pub IsPathHash : ℕ → ℕ → List (Option Node) → ℕ → List (List ℕ) → Option (List ℕ) → Option (List ℕ) → Type 0
-IsPathHash h b nodes i keys above =
-    λ below. hash_bytes below ≡ path_hash b (term_of h nodes) i (reverse keys) (hash_bytes above)
+abbrev pub IsPathHash : Subtree → ℕ → List (List ℕ) → Option (List ℕ) → Option (List ℕ) → Type 0
+IsPathHash t i keys above =
+    λ below. hash_bytes below ≡ path_hash t.first t.term i (reverse keys) (hash_bytes above)
 
 -- the parent with this other side was added, where there is one
-abbrev pub AddsParent : ℕ → ℕ → List (Option Node) → Vec (List ℕ) → Option (List ℕ) → Vec Parent → Vec Parent → Type 0
-AddsParent h b side keys above old new =
-    Adds (option_to_list (parent_beside b (term_of h side) (reverse keys.items) (hash_bytes above))) old new
+abbrev pub AddsParent : Subtree → Vec (List ℕ) → Option (List ℕ) → Vec Parent → Vec Parent → Type 0
+AddsParent side keys above old new =
+    Adds (option_to_list (parent_beside side.first side.term (reverse keys.items) (hash_bytes above))) old new
 
 -- the parents over leaf i were added, the highest first, where no memory was missing
-abbrev pub AddsParents : {B E : Type 0} → ℕ → ℕ → List (Option Node) → ℕ → Vec (List ℕ) → Option (List ℕ) → Vec Parent → Vec Parent → Result B E → Type 0
-AddsParents h b nodes i keys above old new result =
-    OnOk result (Adds (path_parents b (term_of h nodes) i (reverse keys.items) (hash_bytes above)) old new)
+abbrev pub AddsParents : {B E : Type 0} → Subtree → ℕ → Vec (List ℕ) → Option (List ℕ) → Vec Parent → Vec Parent → Result B E → Type 0
+AddsParents t i keys above old new result =
+    OnOk result (Adds (path_parents t.first t.term i (reverse keys.items) (hash_bytes above)) old new)
 
 -- the parents of a merged path are those over leaf i of a tree, by their keys, the lowest first
 abbrev pub HasParents : ℕ → Term → ℕ → List (List ℕ) → MergedPath → Type 0

@@ -3,13 +3,12 @@ use Rattle.std.specs.Prelude.{◌≡◌, ℕ, ◌+◌, nat_lt, true, if◌then�
 use Rattle.std.specs.Global.{Vec}
 use Rattle.mls_leaf.specs.Parent.{Parent}
 use Rattle.mls_leaf.specs.declared.leaf.LeafNode.{LeafNode}
-use Rattle.mls_leaf.specs.declared.node.Node.{Node}
 use Rattle.mls_tree_model.specs.Term.{Term, Leaf, Branch, width, is_perfect}
 use Rattle.mls_tree_model.specs.Hashes.{tree_hash}
 use Rattle.mls_tree_model.specs.Merge.{merge}
-use Rattle.mls_tree_model.specs.Arrays.{term_of}
 use Rattle.mls_tree_array.specs.KeptHashes.{hashes_of}
 use Rattle.mls_tree_array.specs.Merging.{path_parents}
+use Rattle.mls_tree_array.specs.Subtrees.{Subtree}
 
 -- the tree hashes of leaf i and of the nodes over it (RFC 9420, 4.1.2 and 7.8), the lowest first
 unfoldable pub way_hashes : ℕ → Term → ℕ → List (List ℕ)
@@ -31,6 +30,5 @@ PutsHashes n b i hashes old new =
 
 -- where these are the parents that a merge makes over leaf i, the hashes on the way to the leaf were added, and the
 -- tree hash of the merged tree is answered, where no memory was missing
-abbrev pub AddsWay : {E : Type 0} → ℕ → ℕ → List (Option Node) → ℕ → List Parent → LeafNode → Vec (List ℕ) → Vec (List ℕ) → Result (List ℕ) E → Type 0
-AddsWay h b nodes i ps x old new result =
-    IfOk result (λ hash. HashesMerged b (term_of h nodes) i ps x hash old.items new.items)
+abbrev pub AddsWay : {E : Type 0} → Subtree → ℕ → List Parent → LeafNode → Vec (List ℕ) → Vec (List ℕ) → Result (List ℕ) E → Type 0
+AddsWay t i ps x old new result = IfOk result (λ hash. HashesMerged t.first t.term i ps x hash old.items new.items)

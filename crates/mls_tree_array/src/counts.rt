@@ -3,15 +3,14 @@
 ghost use Rattle.std.specs.Prelude.{◌≡◌, true, ◌+◌, ◌*◌, ◌^◌, ◌≤◌, length, OnOk};
 ghost use Rattle.std.specs.Bool.{OnTrue};
 ghost use Rattle.mls_leaf.specs.Parent.{rises};
-ghost use Rattle.mls_treemath.specs.Paths.{nodes_in};
 ghost use Rattle.mls_tree_model.specs.Sets.{has, less, leaf_numbers};
 ghost use Rattle.mls_tree_model.specs.Way.{target_count};
-ghost use Rattle.mls_tree_model.specs.Arrays.{term_of};
+ghost use Rattle.mls_tree_model.specs.Term.{size};
 ghost use Rattle.mls_tree_array.specs.Additions.{AddsCount, AddsCounts};
 
-use crate::places::{leaf_in, middle_of, parent_in};
+use crate::places::{leaf_in, parent_in};
 use crate::resolutions::is_reached;
-use mls_tree_slot::Slot;
+use crate::subtree::{Parts, Subtree};
 use std::alloc::AllocError;
 
 /// Whether a search by halves finds a node among these leaves. Where they rise, it misses none.
@@ -68,75 +67,48 @@ fn count_others(leaves: &[u32], added: &[u32]) -> usize
 }
 
 /// How many nodes of the resolution aren't leaves just added.
-#[tactic(auto, using(mls_treemath::proofs::Sizes::nodes_in_pos))]
-fn target_count(nodes: &[Slot], height: u32, first: u32, added: &[u32]) -> usize
-    requires shape { length nodes.now ≡ nodes_in height }
-    requires fits { first + 2 ^ height ≤ 2 ^ 31 }
-    ensures value { result ≡ target_count added.now first (term_of height nodes.now) }
-    ensures low { result ≤ length nodes.now * (2 ^ 32 + 1) }
+#[tactic(auto, unfolding(mls_tree_model::specs::Term::size))]
+fn target_count(tree: &Subtree<'_>, added: &[u32]) -> usize
+    ensures value { result ≡ target_count added.now tree.now.first tree.now.term }
+    ensures low { result ≤ size tree.now.term * (2 ^ 32 + 1) }
 {
-    if height == 0 {
-        return match leaf_in(&nodes[0]) {
-            Some(_) => usize::from(!is_leaf_among(added, 2 * u64::from(first))),
+    match tree.parts() {
+        Parts::Leaf(place) => match leaf_in(place) {
+            Some(_) => usize::from(!is_leaf_among(added, 2 * u64::from(tree.first()))),
             None => 0,
-        };
-    }
-    let middle = middle_of(nodes.len(), height);
-    match parent_in(&nodes[middle]) {
-        Some(parent) => 1 + count_others(parent.unmerged_leaves(), added),
-        None => {
-            let second = first + (middle / 2 + 1) as u32;
-            let left = target_count(&nodes[..middle], height - 1, first, added);
-            left + target_count(&nodes[middle + 1..], height - 1, second, added)
-        }
+        },
+        Parts::Branch { left, root, right } => match parent_in(root) {
+            Some(parent) => 1 + count_others(parent.unmerged_leaves(), added),
+            None => target_count(&left, added) + target_count(&right, added),
+        },
     }
 }
 
 /// Adds to `out` how many nodes of a side's resolution aren't leaves just added, where it has any node.
-fn push_count(
-    side: &[Slot],
-    height: u32,
-    first: u32,
-    added: &[u32],
-    out: &mut Vec<usize>,
-) -> Result<(), AllocError>
-    requires shape { length side.now ≡ nodes_in height }
-    requires fits { first + 2 ^ height ≤ 2 ^ 31 }
-    ensures { OnOk result (AddsCount height first side.now added.now out.old out.new) }
+fn push_count(side: &Subtree<'_>, added: &[u32], out: &mut Vec<usize>) -> Result<(), AllocError>
+    ensures { OnOk result (AddsCount side.now added.now out.old out.new) }
 {
-    if is_reached(side, height) {
-        out.push(target_count(side, height, first, added))?;
+    if is_reached(side) {
+        out.push(target_count(side, added))?;
     }
     Ok(())
 }
 
 /// Adds to `out` how many ciphertexts each node of a leaf's path has, the lowest first (RFC 9420, 7.6): one for each
 /// node of the resolution of its other side, without the leaves just added.
-#[tactic(auto, using(mls_treemath::proofs::Sizes::nodes_in_pos))]
 pub fn ciphertext_counts(
-    nodes: &[Slot],
-    height: u32,
-    first: u32,
+    tree: &Subtree<'_>,
     leaf: u32,
     added: &[u32],
     out: &mut Vec<usize>,
 ) -> Result<(), AllocError>
-    requires shape { length nodes.now ≡ nodes_in height }
-    requires fits { first + 2 ^ height ≤ 2 ^ 31 }
-    ensures { OnOk result (AddsCounts height first nodes.now leaf added.now out.old out.new) }
+    ensures { OnOk result (AddsCounts tree.now leaf added.now out.old out.new) }
 {
-    if height == 0 {
-        return Ok(());
-    }
-    let middle = middle_of(nodes.len(), height);
-    let second = first + (middle / 2 + 1) as u32;
-    let left = &nodes[..middle];
-    let right = &nodes[middle + 1..];
-    if leaf < second {
-        ciphertext_counts(left, height - 1, first, leaf, added, out)?;
-        push_count(right, height - 1, second, added, out)
-    } else {
-        ciphertext_counts(right, height - 1, second, leaf, added, out)?;
-        push_count(left, height - 1, first, added, out)
+    match tree.step_to(leaf) {
+        None => Ok(()),
+        Some(step) => {
+            ciphertext_counts(&step.side, leaf, added, out)?;
+            push_count(&step.other, added, out)
+        }
     }
 }

@@ -1,11 +1,11 @@
 //! Tree hashes, and those that are kept beside the nodes.
 
-ghost use Rattle.std.specs.Prelude.{◌≡◌, ◌+◌, ◌/◌, ◌^◌, ◌≤◌, None, is_some, true, length, slice_index_or};
+ghost use Rattle.std.specs.Prelude.{◌≡◌, ◌+◌, ◌^◌, ◌≤◌, length};
 ghost use Rattle.mls_treemath.specs.Paths.{nodes_in};
 ghost use Rattle.mls_tree_model.specs.Hashes.{tree_hash};
 ghost use Rattle.mls_tree_model.specs.Arrays.{term_of};
 ghost use Rattle.mls_tree_hash.specs.Counter.{counted};
-ghost use Rattle.mls_tree_array.specs.KeptHashes.{hashes_of, Keeps, cold_places, DropsHashes, IsRootHash};
+ghost use Rattle.mls_tree_array.specs.KeptHashes.{hashes_of, Keeps, cold_places, DropsHashes};
 
 use crate::places::{leaf_in, middle_of, parent_in};
 use mls_tree_hash::{Hash, branch_hash, leaf_hash};
@@ -79,16 +79,5 @@ pub(crate) fn drop_hashes(kept: &mut [Option<Hash>], height: u32, first: u32, i:
         drop_hashes(&mut kept[..middle], height - 1, first, i);
     } else {
         drop_hashes(&mut kept[middle + 1..], height - 1, second, i);
-    }
-}
-
-/// The tree hash of a tree whose kept hashes are all there.
-pub(crate) fn root_hash(kept: &[Option<Hash>]) -> Hash
-    requires { is_some (slice_index_or kept.now (length kept.now / 2) None) ≡ true }
-    ensures { IsRootHash kept.now result }
-{
-    match kept[kept.len() / 2] {
-        Some(hash) => hash,
-        None => unreachable!(),
     }
 }

@@ -1,13 +1,16 @@
 //! A ratchet tree as one array of its nodes in order (RFC 9420, appendix C).
 //!
-//! A tree of height h is a slice of its nodes: first those of its left side, then its root, then those of its right
-//! side. Most functions are a recursion over these two parts, and each contract speaks of the term that the slice
-//! stands for. `first` is the number of the tree's first leaf, which the definitions carry along in the same way.
+//! What reads a tree takes it as a [`Subtree`], a view of its nodes that stands for a term: a leaf, or a root over two
+//! sides. Where no node is cold, a [`HashedSubtree`] has the tree hashes of all subtrees too. What edits a tree is a
+//! recursion over the slice of its nodes: first those of its left side, then its root, then those of its right side.
 #![tactic(auto)]
 
+mod chains;
 mod counts;
 mod distinct;
 mod edits;
+mod first_parents;
+mod hashed_subtree;
 mod hashes;
 mod kept_hashes;
 mod lists;
@@ -20,13 +23,17 @@ mod path;
 mod places;
 mod resolutions;
 mod sizes;
+mod subtree;
 mod validity;
 mod way_hashes;
 mod witnesses;
 
+pub use chains::last_path;
 pub use counts::{ciphertext_counts, is_leaf_among};
 pub use distinct::are_distinct;
 pub use edits::{enter, put};
+pub use first_parents::{first_wrong_hash, first_wrong_list};
+pub use hashed_subtree::HashedSubtree;
 pub use kept_hashes::Hashes;
 pub use lists::has_good_lists;
 pub use lookup::{leaf, node};
@@ -38,5 +45,6 @@ pub use path::filtered_path;
 pub use places::{leaf_in, parent_in};
 pub use resolutions::{is_reached, is_reached_at, resolution, resolution_at};
 pub use sizes::{grow, trimmed_height};
+pub use subtree::Subtree;
 pub use validity::has_good_hashes;
 pub use way_hashes::merged_hashes;

@@ -1,17 +1,16 @@
 //! Right lists of unmerged leaves (RFC 9420, 12.4.3.1).
 
-ghost use Rattle.std.specs.Prelude.{◌≡◌, ◌+◌, ◌^◌, ◌≤◌, true, length};
+ghost use Rattle.std.specs.Prelude.{◌≡◌, true};
 ghost use Rattle.std.specs.Option.{option_copied};
 ghost use Rattle.mls_leaf.specs.Parent.{rises};
-ghost use Rattle.mls_treemath.specs.Paths.{nodes_in};
-ghost use Rattle.mls_treemath.specs.Limits.{max_height};
 ghost use Rattle.mls_tree_model.specs.Sets.{has};
-ghost use Rattle.mls_tree_model.specs.Lists.{may_list, is_listed, lists_here, rises_here, all_parents};
+ghost use Rattle.mls_tree_model.specs.Lists.{may_list, is_listed, may_be_listed, lists_here, rises_here, all_parents};
 ghost use Rattle.mls_tree_model.specs.Good.{has_good_lists};
-ghost use Rattle.mls_tree_model.specs.Arrays.{term_of};
-ghost use Rattle.mls_tree_array.specs.RightLists.{may_list_over, passes_over, root_passes, AllRise};
+ghost use Rattle.mls_tree_array.specs.RightLists.{passes_over, root_passes, AllRise};
+ghost use Rattle.mls_tree_array.specs.Subtrees.{end};
 
-use crate::places::{leaf_in, middle_of, parent_in};
+use crate::places::{holds_leaf, parent_in};
+use crate::subtree::{Parts, Subtree};
 use mls_leaf::ParentNode;
 use mls_tree_slot::Slot;
 
@@ -34,75 +33,47 @@ fn may_list(parent: Option<&ParentNode>, leaf: u32) -> bool
 }
 
 /// Whether a leaf is taken, and each parent over it lists it.
-#[tactic(auto, using(mls_treemath::proofs::Sizes::nodes_in_pos))]
-fn is_listed(nodes: &[Slot], height: u32, first: u32, leaf: u32) -> bool
-    requires shape { length nodes.now ≡ nodes_in height }
-    requires fits { first + 2 ^ height ≤ 2 ^ 31 }
-    ensures { result ≡ is_listed first (term_of height nodes.now) leaf }
+fn is_listed(tree: &Subtree<'_>, leaf: u32) -> bool
+    ensures { result ≡ is_listed tree.now.first tree.now.term leaf }
 {
-    if height == 0 {
-        return match leaf_in(&nodes[0]) {
-            Some(_) => true,
-            None => false,
-        };
-    }
-    let middle = middle_of(nodes.len(), height);
-    if !may_list(parent_in(&nodes[middle]), leaf) {
-        return false;
-    }
-    let second = first + (middle / 2 + 1) as u32;
-    if leaf < second {
-        is_listed(&nodes[..middle], height - 1, first, leaf)
-    } else {
-        is_listed(&nodes[middle + 1..], height - 1, second, leaf)
+    match tree.parts() {
+        Parts::Leaf(place) => holds_leaf(place),
+        Parts::Branch { left, root, right } => {
+            if !may_list(parent_in(root), leaf) {
+                return false;
+            }
+            if leaf < right.first() {
+                return is_listed(&left, leaf);
+            }
+            is_listed(&right, leaf)
+        }
     }
 }
 
 /// Whether a parent over these two sides may list a leaf: it is below it, and each parent between lists it.
-fn may_be_listed(
-    left: &[Slot],
-    right: &[Slot],
-    height: u32,
-    first: u32,
-    second: u32,
-    leaf: u32,
-) -> bool
-    requires left_shape { length left.now ≡ nodes_in height }
-    requires right_shape { length right.now ≡ nodes_in height }
-    requires middle { second ≡ first + 2 ^ height }
-    requires fits { second + 2 ^ height ≤ 2 ^ 31 }
-    ensures { result ≡ may_list_over height first left.now right.now leaf }
+fn may_be_listed(left: &Subtree<'_>, right: &Subtree<'_>, leaf: u32) -> bool
+    requires { right.now.first ≡ end left.now }
+    ensures { result ≡ may_be_listed left.now.first left.now.term right.now.term leaf }
 {
-    if leaf < first || leaf >= second + (second - first) {
+    if leaf < left.first() || leaf >= right.end() {
         return false;
     }
-    if leaf < second {
-        is_listed(left, height, first, leaf)
-    } else {
-        is_listed(right, height, second, leaf)
+    if leaf < right.first() {
+        return is_listed(left, leaf);
     }
+    is_listed(right, leaf)
 }
 
 /// Whether a parent over these two sides lists only what it may list.
 #[tactic(auto, unfolding(mls_tree_model::specs::Lists::rises_here))]
-fn lists_here(
-    parent: &ParentNode,
-    left: &[Slot],
-    right: &[Slot],
-    height: u32,
-    first: u32,
-    second: u32,
-) -> bool
-    requires left_shape { length left.now ≡ nodes_in height }
-    requires right_shape { length right.now ≡ nodes_in height }
-    requires middle { second ≡ first + 2 ^ height }
-    requires fits { second + 2 ^ height ≤ 2 ^ 31 }
-    ensures right { result ≡ passes_over lists_here height first parent.now left.now right.now }
+fn lists_here(parent: &ParentNode, left: &Subtree<'_>, right: &Subtree<'_>) -> bool
+    requires { right.now.first ≡ end left.now }
+    ensures right { result ≡ passes_over lists_here left.now parent.now right.now }
     // Its list rises, as every parent's does.
-    ensures rising { passes_over rises_here height first parent.now left.now right.now ≡ true }
+    ensures rising { passes_over rises_here left.now parent.now right.now ≡ true }
 {
     for leaf in parent.unmerged_leaves() {
-        if !may_be_listed(left, right, height, first, second, *leaf) {
+        if !may_be_listed(left, right, *leaf) {
             return false;
         }
     }
@@ -110,58 +81,42 @@ fn lists_here(
 }
 
 /// Whether the root over these two sides lists only what it may list, where it isn't blank.
-fn is_root_list_right(
-    root: &Slot,
-    left: &[Slot],
-    right: &[Slot],
-    height: u32,
-    first: u32,
-    second: u32,
-) -> bool
-    requires left_shape { length left.now ≡ nodes_in height }
-    requires right_shape { length right.now ≡ nodes_in height }
-    requires middle { second ≡ first + 2 ^ height }
-    requires fits { second + 2 ^ height ≤ 2 ^ 31 }
-    ensures right { result ≡ root_passes lists_here height first root.now left.now right.now }
-    ensures rising { root_passes rises_here height first root.now left.now right.now ≡ true }
+pub(crate) fn is_root_list_right(root: &Slot, left: &Subtree<'_>, right: &Subtree<'_>) -> bool
+    requires { right.now.first ≡ end left.now }
+    ensures right { result ≡ root_passes lists_here left.now root.now right.now }
+    ensures rising { root_passes rises_here left.now root.now right.now ≡ true }
 {
     match parent_in(root) {
-        Some(parent) => lists_here(parent, left, right, height, first, second),
+        Some(parent) => lists_here(parent, left, right),
         None => true,
     }
 }
 
 /// Whether each parent of a tree lists only what it may list.
-#[tactic(auto, using(mls_treemath::proofs::Sizes::nodes_in_pos))]
-fn are_lists_right(nodes: &[Slot], height: u32, first: u32) -> bool
-    requires shape { length nodes.now ≡ nodes_in height }
-    requires fits { first + 2 ^ height ≤ 2 ^ 31 }
-    ensures right { result ≡ all_parents lists_here first (term_of height nodes.now) }
-    ensures rising { result ≡ true → AllRise first (term_of height nodes.now) }
+fn are_lists_right(tree: &Subtree<'_>) -> bool
+    ensures right { result ≡ all_parents lists_here tree.now.first tree.now.term }
+    ensures rising { result ≡ true → AllRise tree.now.first tree.now.term }
 {
-    if height == 0 {
-        return true;
+    match tree.parts() {
+        Parts::Leaf(_) => true,
+        Parts::Branch { left, root, right } => {
+            if !is_root_list_right(root, &left, &right) {
+                return false;
+            }
+            if !are_lists_right(&left) {
+                return false;
+            }
+            are_lists_right(&right)
+        }
     }
-    let middle = middle_of(nodes.len(), height);
-    let second = first + (middle / 2 + 1) as u32;
-    let left = &nodes[..middle];
-    let right = &nodes[middle + 1..];
-    if !is_root_list_right(&nodes[middle], left, right, height - 1, first, second) {
-        return false;
-    }
-    if !are_lists_right(left, height - 1, first) {
-        return false;
-    }
-    are_lists_right(right, height - 1, second)
 }
 
-/// Whether each unmerged leaf is a member below its parent, and each parent between lists it too. Takes no memory. Each
-/// list that it has gone over rises.
-pub fn has_good_lists(nodes: &[Slot], height: u32) -> bool
-    requires shape { length nodes.now ≡ nodes_in height }
-    requires low { height ≤ max_height }
-    ensures right { result ≡ has_good_lists (term_of height nodes.now) }
-    ensures rising { result ≡ true → AllRise 0 (term_of height nodes.now) }
+/// Whether each unmerged leaf of a whole tree is a member below its parent, and each parent between lists it too. Takes
+/// no memory. Each list that it has gone over rises.
+pub fn has_good_lists(tree: &Subtree<'_>) -> bool
+    requires { tree.now.first ≡ 0 }
+    ensures right { result ≡ has_good_lists tree.now.term }
+    ensures rising { result ≡ true → AllRise 0 tree.now.term }
 {
-    are_lists_right(nodes, height, 0)
+    are_lists_right(tree)
 }

@@ -2,67 +2,64 @@
 
 ghost use Rattle.std.specs.Prelude.{◌≡◌, ℕ, ◌+◌, ◌^◌, ◌<◌, ◌≤◌, Some, length};
 ghost use Rattle.mls_treemath.specs.Paths.{nodes_in};
-ghost use Rattle.mls_treemath.specs.Limits.{max_height};
-ghost use Rattle.mls_tree_model.specs.Term.{has_leaf, is_full_width};
+ghost use Rattle.mls_tree_model.specs.Term.{width, has_leaf, is_full_width};
 ghost use Rattle.mls_tree_model.specs.Edits.{first_blank};
 ghost use Rattle.mls_tree_model.specs.Keys.{members};
 ghost use Rattle.mls_tree_model.specs.Arrays.{term_of};
 ghost use Rattle.mls_tree_array.specs.EndOfMembers.{end_of_members};
 
 use crate::places::{leaf_in, middle_of};
+use crate::subtree::{Parts, Subtree};
 use mls_tree_slot::Slot;
 
 /// The number of the leftmost blank leaf, where each leaf before `from` is taken: it looks at none of them but the
 /// last.
-#[tactic(auto, using(mls_treemath::proofs::Sizes::nodes_in_pos))]
-pub fn first_blank(nodes: &[Slot], height: u32, first: u32, from: u32) -> Option<u32>
-    requires shape { length nodes.now ≡ nodes_in height }
-    requires fits { first + 2 ^ height ≤ 2 ^ 31 }
-    requires taken { (i : ℕ) → first_blank first (term_of height nodes.now) ≡ Some i → from ≤ i }
-    ensures { result ≡ first_blank first (term_of height nodes.now) }
+#[tactic(auto, unfolding(mls_tree_model::specs::Edits::first_blank))]
+pub fn first_blank(tree: &Subtree<'_>, from: u32) -> Option<u32>
+    requires { (i : ℕ) → first_blank tree.now.first tree.now.term ≡ Some i → from ≤ i }
+    ensures { result ≡ first_blank tree.now.first tree.now.term }
 {
-    if height == 0 {
-        return match leaf_in(&nodes[0]) {
+    match tree.parts() {
+        Parts::Leaf(place) => match leaf_in(place) {
             Some(_) => None,
-            None => Some(first),
-        };
-    }
-    let middle = middle_of(nodes.len(), height);
-    let second = first + (middle / 2 + 1) as u32;
-    if second <= from {
-        return first_blank(&nodes[middle + 1..], height - 1, second, from);
-    }
-    match first_blank(&nodes[..middle], height - 1, first, from) {
-        Some(i) => Some(i),
-        None => first_blank(&nodes[middle + 1..], height - 1, second, from),
+            None => Some(tree.first()),
+        },
+        Parts::Branch { left, right, .. } => {
+            if right.first() <= from {
+                return first_blank(&right, from);
+            }
+            match first_blank(&left, from) {
+                Some(i) => Some(i),
+                None => first_blank(&right, from),
+            }
+        }
     }
 }
 
 /// One past the rightmost taken leaf, where each leaf from `end` on is blank: it looks at none of them but the first.
 /// It is `first` where no leaf is taken.
-#[tactic(auto, using(mls_treemath::proofs::Sizes::nodes_in_pos))]
-pub fn end_of_members(nodes: &[Slot], height: u32, first: u32, end: u32) -> u32
-    requires shape { length nodes.now ≡ nodes_in height }
-    requires fits { first + 2 ^ height ≤ 2 ^ 31 }
-    requires blank { end_of_members first (term_of height nodes.now) ≤ end }
-    ensures { result ≡ end_of_members first (term_of height nodes.now) }
+#[tactic(auto, unfolding(crate::specs::EndOfMembers::end_of_members, mls_tree_model::specs::Term::width))]
+pub fn end_of_members(tree: &Subtree<'_>, end: u32) -> u32
+    requires { end_of_members tree.now.first tree.now.term ≤ end }
+    ensures { result ≡ end_of_members tree.now.first tree.now.term }
 {
-    if height == 0 {
-        return match leaf_in(&nodes[0]) {
-            Some(_) => first + 1,
-            None => first,
-        };
+    match tree.parts() {
+        Parts::Leaf(place) => match leaf_in(place) {
+            Some(_) => tree.end(),
+            None => tree.first(),
+        },
+        Parts::Branch { left, right, .. } => {
+            let second = right.first();
+            if end <= second {
+                return end_of_members(&left, end);
+            }
+            let on_right = end_of_members(&right, end);
+            if second < on_right {
+                return on_right;
+            }
+            end_of_members(&left, second)
+        }
     }
-    let middle = middle_of(nodes.len(), height);
-    let second = first + (middle / 2 + 1) as u32;
-    if end <= second {
-        return end_of_members(&nodes[..middle], height - 1, first, end);
-    }
-    let right = end_of_members(&nodes[middle + 1..], height - 1, second, end);
-    if second < right {
-        return right;
-    }
-    end_of_members(&nodes[..middle], height - 1, first, second)
 }
 
 /// Whether the first place has a leaf, where blank ones follow.
@@ -111,20 +108,16 @@ pub fn is_full_width(nodes: &[Slot], height: u32) -> bool
 }
 
 /// How many members the tree has.
-#[tactic(auto, using(mls_treemath::proofs::Sizes::nodes_in_pos))]
-pub fn member_count(nodes: &[Slot], height: u32) -> u32
-    requires shape { length nodes.now ≡ nodes_in height }
-    requires low { height ≤ max_height }
-    ensures count { (b : ℕ) → result ≡ length (members b (term_of height nodes.now)) }
-    ensures within { result ≤ 2 ^ height }
+#[tactic(auto, unfolding(mls_tree_model::specs::Keys::members, mls_tree_model::specs::Term::width))]
+pub fn member_count(tree: &Subtree<'_>) -> u32
+    ensures count { (b : ℕ) → result ≡ length (members b tree.now.term) }
+    ensures within { result ≤ width tree.now.term }
 {
-    if height == 0 {
-        return match leaf_in(&nodes[0]) {
+    match tree.parts() {
+        Parts::Leaf(place) => match leaf_in(place) {
             Some(_) => 1,
             None => 0,
-        };
+        },
+        Parts::Branch { left, right, .. } => member_count(&left) + member_count(&right),
     }
-    let middle = middle_of(nodes.len(), height);
-    let left = member_count(&nodes[..middle], height - 1);
-    left + member_count(&nodes[middle + 1..], height - 1)
 }

@@ -3,18 +3,19 @@
 ghost use Rattle.std.specs.Prelude.{◌≡◌, ℕ, ◌+◌, ◌-◌, ◌^◌, ◌<◌, ◌≤◌, length, take, drop, IfOk, OnOk};
 ghost use Rattle.std.specs.Vec.Iter.{into_iter_items};
 ghost use Rattle.mls_treemath.specs.Paths.{nodes_in};
+ghost use Rattle.mls_tree_model.specs.Term.{height};
 ghost use Rattle.mls_tree_model.specs.Way.{path_length};
-ghost use Rattle.mls_tree_model.specs.Hashes.{tree_hash};
 ghost use Rattle.mls_tree_model.specs.Resolution.{is_reached};
-ghost use Rattle.mls_tree_model.specs.Arrays.{term_of, parent_cell, HasMiddle};
+ghost use Rattle.mls_tree_model.specs.Arrays.{term_of, parent_cell};
+ghost use Rattle.mls_tree_model.specs.Laws.{HasMiddle};
 ghost use Rattle.mls_tree_array.specs.Standing.{Stands};
-ghost use Rattle.mls_tree_array.specs.KeptHashes.{hashes_of};
 ghost use Rattle.mls_tree_array.specs.Merging.{first_if, rest_if, hash_bytes};
 ghost use Rattle.mls_tree_array.specs.PathParents.{merged_parent, AreKeysBelow, IsHashBelow, IsPathHash, AddsParent, AddsParents, HasParents, HasHash, MergesPath};
 
-use crate::hashes::root_hash;
+use crate::hashed_subtree::HashedSubtree;
 use crate::places::middle_of;
 use crate::resolutions::is_reached;
+use crate::subtree::Subtree;
 use mls_leaf::{Bytes, Items, ParentNode};
 use mls_tree_hash::{Hash, sibling_hash};
 use mls_tree_slot::{SharedLeaf, SharedParent, Slot};
@@ -22,24 +23,13 @@ use std::alloc::{AllocError, Global};
 use std::vec;
 
 /// How many parents the filtered direct path of a leaf takes in (RFC 9420, 4.1.2). Takes no memory.
-#[tactic(auto, using(mls_treemath::proofs::Sizes::nodes_in_pos))]
-pub fn path_length(nodes: &[Slot], height: u32, first: u32, leaf: u32) -> u32
-    requires shape { length nodes.now ≡ nodes_in height }
-    requires fits { first + 2 ^ height ≤ 2 ^ 31 }
-    ensures value { result ≡ path_length first (term_of height nodes.now) leaf }
-    ensures low { result ≤ height }
+pub fn path_length(tree: &Subtree<'_>, leaf: u32) -> u32
+    ensures value { result ≡ path_length tree.now.first tree.now.term leaf }
+    ensures low { result ≤ height tree.now.term }
 {
-    if height == 0 {
-        return 0;
-    }
-    let middle = middle_of(nodes.len(), height);
-    let second = first + (middle / 2 + 1) as u32;
-    let left = &nodes[..middle];
-    let right = &nodes[middle + 1..];
-    if leaf < second {
-        u32::from(is_reached(right, height - 1)) + path_length(left, height - 1, first, leaf)
-    } else {
-        u32::from(is_reached(left, height - 1)) + path_length(right, height - 1, second, leaf)
+    match tree.step_to(leaf) {
+        None => 0,
+        Some(step) => u32::from(is_reached(&step.other)) + path_length(&step.side, leaf),
     }
 }
 
@@ -53,69 +43,44 @@ pub fn bytes_of(hash: &Option<Hash>) -> &[u8]
     }
 }
 
-/// The keys and the parent hash that a merge hands down below a parent with this other side, whose tree hash is
-/// `sibling`. The keys are those of the parents from there on, the lowest first.
+/// The keys and the parent hash that a merge hands down below a parent with this other side. The keys are those of the
+/// parents from there on, the lowest first.
 fn hand_down<'a>(
-    side: &[Slot],
-    height: u32,
-    first: u32,
-    sibling: &Hash,
+    side: &HashedSubtree<'_>,
     keys: &'a [Bytes],
     above: Option<Hash>,
 ) -> (&'a [Bytes], Option<Hash>)
-    requires shape { length side.now ≡ nodes_in height }
-    requires fits { first + 2 ^ height ≤ 2 ^ 31 }
-    requires hashed { sibling.now ≡ tree_hash first (term_of height side.now) }
-    ensures keys { AreKeysBelow height first side.now keys.now result.0.now }
-    ensures hash { IsHashBelow height first side.now keys.now above result.1 }
+    ensures keys { AreKeysBelow side.now keys.now result.0.now }
+    ensures hash { IsHashBelow side.now keys.now above result.1 }
 {
-    if !is_reached(side, height) {
+    if !side.is_reached() {
         return (keys, above);
     }
     match keys {
         [lower @ .., key] => {
-            let below = sibling_hash(key.as_slice(), bytes_of(&above), sibling);
+            let below = sibling_hash(key.as_slice(), bytes_of(&above), &side.hash());
             (lower, Some(below))
         }
         [] => (keys, above),
     }
 }
 
-/// The parent hash that reaches a leaf when a path with these keys is merged, the lowest first (RFC 9420, 7.9), where
-/// `kept` are the tree hashes of all subtrees. Takes no memory.
-#[tactic(auto, using(mls_treemath::proofs::Sizes::nodes_in_pos))]
+/// The parent hash that reaches a leaf when a path with these keys is merged, the lowest first (RFC 9420, 7.9). Takes
+/// no memory.
 pub fn path_hash(
-    nodes: &[Slot],
-    kept: &[Option<Hash>],
-    height: u32,
-    first: u32,
+    tree: &HashedSubtree<'_>,
     leaf: u32,
     keys: &[Bytes],
     hash: Option<Hash>,
 ) -> Option<Hash>
-    requires shape { length nodes.now ≡ nodes_in height }
-    requires fits { first + 2 ^ height ≤ 2 ^ 31 }
-    requires long { length kept.now ≡ nodes_in height }
-    requires hashed { kept.now ≡ hashes_of first (term_of height nodes.now) }
-    ensures { IsPathHash height first nodes.now leaf keys.now hash result }
+    ensures { IsPathHash tree.now leaf keys.now hash result }
 {
-    if height == 0 {
-        return hash;
-    }
-    let middle = middle_of(nodes.len(), height);
-    let second = first + (middle / 2 + 1) as u32;
-    let left = &nodes[..middle];
-    let right = &nodes[middle + 1..];
-    let lower_kept = &kept[..middle];
-    let upper_kept = &kept[middle + 1..];
-    if leaf < second {
-        let sibling = root_hash(upper_kept);
-        let (lower, below) = hand_down(right, height - 1, second, &sibling, keys, hash);
-        path_hash(left, lower_kept, height - 1, first, leaf, lower, below)
-    } else {
-        let sibling = root_hash(lower_kept);
-        let (lower, below) = hand_down(left, height - 1, first, &sibling, keys, hash);
-        path_hash(right, upper_kept, height - 1, second, leaf, lower, below)
+    match tree.step_to(leaf) {
+        None => hash,
+        Some(step) => {
+            let (lower, below) = hand_down(&step.other, keys, hash);
+            path_hash(&step.side, leaf, lower, below)
+        }
     }
 }
 
@@ -131,30 +96,24 @@ fn merged_parent(alloc: Global, key: Bytes, hash: &Option<Hash>) -> Result<Share
 }
 
 /// Adds the parent that a merge makes, whose other side this is, where there is one, and answers the parent hash that
-/// it hands down. `sibling` is the side's tree hash. The parent's key is the last one, which is taken.
+/// it hands down. The parent's key is the last one, which is taken.
 fn add_parent(
     alloc: Global,
-    side: &[Slot],
-    height: u32,
-    first: u32,
-    sibling: &Hash,
+    side: &HashedSubtree<'_>,
     keys: &mut Vec<Bytes>,
     above: Option<Hash>,
     out: &mut Vec<SharedParent>,
 ) -> Result<Option<Hash>, AllocError>
-    requires shape { length side.now ≡ nodes_in height }
-    requires fits { first + 2 ^ height ≤ 2 ^ 31 }
-    requires hashed { sibling.now ≡ tree_hash first (term_of height side.now) }
-    ensures parent { OnOk result (AddsParent height first side.now keys.old above out.old out.new) }
-    ensures keys { OnOk result (AreKeysBelow height first side.now keys.old.items keys.new.items) }
-    ensures hash { IfOk result (IsHashBelow height first side.now keys.old.items above) }
+    ensures parent { OnOk result (AddsParent side.now keys.old above out.old out.new) }
+    ensures keys { OnOk result (AreKeysBelow side.now keys.old.items keys.new.items) }
+    ensures hash { IfOk result (IsHashBelow side.now keys.old.items above) }
 {
-    if !is_reached(side, height) {
+    if !side.is_reached() {
         return Ok(above);
     }
     match keys.pop() {
         Some(key) => {
-            let below = sibling_hash(key.as_slice(), bytes_of(&above), sibling);
+            let below = sibling_hash(key.as_slice(), bytes_of(&above), &side.hash());
             out.push(merged_parent(alloc, key, &above)?)?;
             Ok(Some(below))
         }
@@ -164,62 +123,23 @@ fn add_parent(
 
 /// Adds the parents that a merge makes over a leaf to `out`, the highest first, and answers the parent hash that
 /// reaches the leaf. Their keys are the last ones, which are taken.
-#[tactic(auto, using(mls_treemath::proofs::Sizes::nodes_in_pos))]
 fn add_parents(
     alloc: Global,
-    nodes: &[Slot],
-    kept: &[Option<Hash>],
-    height: u32,
-    first: u32,
+    tree: &HashedSubtree<'_>,
     leaf: u32,
     keys: &mut Vec<Bytes>,
     hash: Option<Hash>,
     out: &mut Vec<SharedParent>,
 ) -> Result<Option<Hash>, AllocError>
-    requires shape { length nodes.now ≡ nodes_in height }
-    requires fits { first + 2 ^ height ≤ 2 ^ 31 }
-    requires long { length kept.now ≡ nodes_in height }
-    requires hashed { kept.now ≡ hashes_of first (term_of height nodes.now) }
-    ensures parents { AddsParents height first nodes.now leaf keys.old hash out.old out.new result }
-    ensures hash { IfOk result (IsPathHash height first nodes.now leaf keys.old.items hash) }
+    ensures parents { AddsParents tree.now leaf keys.old hash out.old out.new result }
+    ensures hash { IfOk result (IsPathHash tree.now leaf keys.old.items hash) }
 {
-    if height == 0 {
-        return Ok(hash);
-    }
-    let middle = middle_of(nodes.len(), height);
-    let second = first + (middle / 2 + 1) as u32;
-    let left = &nodes[..middle];
-    let right = &nodes[middle + 1..];
-    let lower = &kept[..middle];
-    let upper = &kept[middle + 1..];
-    if leaf < second {
-        let sibling = root_hash(upper);
-        let below = add_parent(alloc, right, height - 1, second, &sibling, keys, hash, out)?;
-        add_parents(
-            alloc,
-            left,
-            lower,
-            height - 1,
-            first,
-            leaf,
-            keys,
-            below,
-            out,
-        )
-    } else {
-        let sibling = root_hash(lower);
-        let below = add_parent(alloc, left, height - 1, first, &sibling, keys, hash, out)?;
-        add_parents(
-            alloc,
-            right,
-            upper,
-            height - 1,
-            second,
-            leaf,
-            keys,
-            below,
-            out,
-        )
+    match tree.step_to(leaf) {
+        None => Ok(hash),
+        Some(step) => {
+            let below = add_parent(alloc, &step.other, keys, hash, out)?;
+            add_parents(alloc, &step.side, leaf, keys, below, out)
+        }
     }
 }
 
@@ -233,36 +153,19 @@ pub struct MergedPath {
 }
 
 /// The parents that a merge makes over a leaf, and the parent hash that reaches it (RFC 9420, 7.5 and 7.9). Their keys
-/// are given lowest first, and the highest one's parent hash is empty. `kept` are the tree hashes of all subtrees.
+/// are given lowest first, and the highest one's parent hash is empty.
 pub fn path_parents(
     alloc: Global,
-    nodes: &[Slot],
-    kept: &[Option<Hash>],
-    height: u32,
-    first: u32,
+    tree: &HashedSubtree<'_>,
     leaf: u32,
     keys: Vec<Bytes>,
 ) -> Result<MergedPath, AllocError>
-    requires shape { length nodes.now ≡ nodes_in height }
-    requires fits { first + 2 ^ height ≤ 2 ^ 31 }
-    requires long { length kept.now ≡ nodes_in height }
-    requires hashed { kept.now ≡ hashes_of first (term_of height nodes.now) }
-    ensures parents { IfOk result (HasParents first (term_of height nodes.now) leaf keys.items) }
-    ensures hash { IfOk result (HasHash first (term_of height nodes.now) leaf keys.items) }
+    ensures parents { IfOk result (HasParents tree.now.first tree.now.term leaf keys.items) }
+    ensures hash { IfOk result (HasHash tree.now.first tree.now.term leaf keys.items) }
 {
     let mut keys = keys;
     let mut parents = Vec::with_capacity(alloc, keys.len())?;
-    let hash = add_parents(
-        alloc,
-        nodes,
-        kept,
-        height,
-        first,
-        leaf,
-        &mut keys,
-        None,
-        &mut parents,
-    )?;
+    let hash = add_parents(alloc, tree, leaf, &mut keys, None, &mut parents)?;
     Ok(MergedPath { parents, hash })
 }
 
@@ -284,18 +187,20 @@ fn next_cell(wanted: bool, parents: &mut vec::IntoIter<SharedParent>) -> Slot
 fn is_left_reached(nodes: &[Slot], height: u32, middle: usize) -> bool
     requires above_leaf { 0 < height }
     requires middle { HasMiddle height (length nodes.now) middle }
+    requires fits { 2 ^ height ≤ 2 ^ 31 }
     ensures { (b : ℕ) → result ≡ is_reached b (term_of (height - 1) (take middle nodes.now)) }
 {
-    is_reached(&nodes[..middle], height - 1)
+    is_reached(&Subtree::of(&nodes[..middle], height - 1))
 }
 
 /// Whether the right side of the root is reached.
 fn is_right_reached(nodes: &[Slot], height: u32, middle: usize) -> bool
     requires above_leaf { 0 < height }
     requires middle { HasMiddle height (length nodes.now) middle }
+    requires fits { 2 ^ height ≤ 2 ^ 31 }
     ensures { (b : ℕ) → result ≡ is_reached b (term_of (height - 1) (drop (middle + 1) nodes.now)) }
 {
-    is_reached(&nodes[middle + 1..], height - 1)
+    is_reached(&Subtree::of(&nodes[middle + 1..], height - 1))
 }
 
 /// Merges a path: replaces leaf i and blanks the parents over it, but for those of the filtered path, which are

@@ -1,7 +1,7 @@
 //! Lists of nodes from outside, and as they are sent (RFC 9420, 12.4.3.3).
 
 ghost use Rattle.std.specs.Prelude.{◌≡◌, ◌<◌, ◌≤◌, true, length, take, OnOk, OnErr, IfOk, IsOk};
-ghost use Rattle.mls_tree_model.specs.Arrays.{cut, has_last, may_stand, alternates, height_for, padded};
+ghost use Rattle.mls_tree_model.specs.Arrays.{without_last_blanks, has_last, may_stand, alternates, height_for, with_padding};
 ghost use Rattle.mls_tree_array.specs.Additions.{PadsTo};
 
 use mls_leaf::Node;
@@ -73,7 +73,7 @@ pub fn pad(nodes: &mut Vec<Slot>, to: usize) -> Result<(), AllocError>
 pub fn pad_tree(nodes: &mut Vec<Slot>, height: u32) -> Result<(), AllocError>
     requires holds { height ≡ height_for (length nodes.old.items) }
     requires low { height < 64 }
-    ensures ok { OnOk result (nodes.new.items ≡ padded nodes.old.items) }
+    ensures ok { OnOk result (nodes.new.items ≡ with_padding nodes.old.items) }
     ensures err { OnErr result (nodes.new.items ≡ nodes.old.items) }
 {
     let leaves = 1usize << height;
@@ -84,7 +84,7 @@ pub fn pad_tree(nodes: &mut Vec<Slot>, height: u32) -> Result<(), AllocError>
 /// How many nodes there are up to the last one that isn't blank.
 fn sent_len(nodes: &[Slot]) -> usize
     ensures within { result ≤ length nodes.now }
-    ensures cut { take result nodes.now ≡ cut nodes.now }
+    ensures cut { take result nodes.now ≡ without_last_blanks nodes.now }
 {
     let mut len = nodes.len();
     while len > 0 {
@@ -98,7 +98,7 @@ fn sent_len(nodes: &[Slot]) -> usize
 
 /// A copy of the nodes up to the last one that isn't blank, as they are sent.
 pub fn to_nodes(alloc: Global, nodes: &[Slot]) -> Result<Vec<Slot>, AllocError>
-    ensures { IfOk result (λ v. v.items ≡ cut nodes.now) }
+    ensures { IfOk result (λ v. v.items ≡ without_last_blanks nodes.now) }
 {
     Vec::from_clones(alloc, &nodes[..sent_len(nodes)])
 }

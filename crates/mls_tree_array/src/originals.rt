@@ -1,27 +1,24 @@
 //! Tree hashes of trees as they were before some leaves were added (RFC 9420, 7.9).
 
-ghost use Rattle.std.specs.Prelude.{◌≡◌, ◌+◌, ◌^◌, ◌≤◌, true, not, length};
+ghost use Rattle.std.specs.Prelude.{◌≡◌, true, not};
 ghost use Rattle.std.specs.List.{list_all};
 ghost use Rattle.std.specs.Option.{option_copied};
 ghost use Rattle.mls_leaf.specs.Parent.{rises};
-ghost use Rattle.mls_treemath.specs.Paths.{nodes_in};
 ghost use Rattle.mls_tree_model.specs.Sets.{has};
-ghost use Rattle.mls_tree_model.specs.Inputs.{branch_hash};
+ghost use Rattle.mls_tree_model.specs.Inputs.{leaf_hash, branch_hash};
 ghost use Rattle.mls_tree_model.specs.Lists.{lists_here, all_parents};
-ghost use Rattle.mls_tree_model.specs.Arrays.{term_of};
-ghost use Rattle.mls_tree_array.specs.KeptHashes.{hashes_of};
 ghost use Rattle.mls_tree_array.specs.Splits.{Splits};
 ghost use Rattle.mls_tree_array.specs.Witnesses.{unmerged_leaves_of};
-ghost use Rattle.mls_tree_array.specs.Originals.{original_hash, Stays};
+ghost use Rattle.mls_tree_array.specs.Originals.{original_hash, leaf_before, Stays};
 ghost use Rattle.mls_tree_hash.specs.Originals.{hash_without};
 
-use crate::hashes::root_hash;
+use crate::hashed_subtree::{HashedParts, HashedSubtree};
 use crate::lists::has;
-use crate::places::{middle_of, parent_in};
+use crate::places::{leaf_in, parent_in};
+use crate::subtree::{Parts, Subtree};
 use crate::validity::same_bytes;
-use mls_leaf::ParentNode;
-use mls_tree_hash::{Hash, branch_hash_without, leaf_hash_without};
-use mls_tree_slot::Slot;
+use mls_leaf::{LeafNode, ParentNode};
+use mls_tree_hash::{Hash, branch_hash_without, leaf_hash, leaf_hash_without};
 
 /// The unmerged leaves of a place that may be blank.
 fn unmerged_leaves_of(parent: Option<&ParentNode>) -> &[u32]
@@ -99,46 +96,61 @@ fn count_before(leaves: &[u32], end: u32) -> usize
     }
 }
 
-/// The tree hash of a side as it was before some leaves were added, where `hashes` are the tree hashes of its subtrees
-/// and its parents list leaves below them alone: only the subtrees that have one of the leaves are walked, and of
-/// these only those that they change are hashed.
-#[tactic(auto, using(mls_treemath::proofs::Sizes::nodes_in_pos))]
-pub(crate) fn original_hash(
-    nodes: &[Slot],
-    hashes: &[Option<Hash>],
-    height: u32,
-    first: u32,
-    unmerged: &[u32],
-) -> Hash
-    requires shape { length nodes.now ≡ nodes_in height }
-    requires long { length hashes.now ≡ nodes_in height }
-    requires fits { first + 2 ^ height ≤ 2 ^ 31 }
+/// The tree hash of a side as it was before some leaves were added, where its parents list leaves below them alone: only
+/// the subtrees that have one of the leaves are walked, and of these only those that they change are hashed.
+pub(crate) fn original_hash(tree: &HashedSubtree<'_>, unmerged: &[u32]) -> Hash
     requires rise { rises unmerged.now ≡ true }
-    requires hashed { hashes.now ≡ hashes_of first (term_of height nodes.now) }
-    requires lists { all_parents lists_here first (term_of height nodes.now) ≡ true }
-    ensures { result ≡ original_hash unmerged.now first (term_of height nodes.now) }
+    requires lists { all_parents lists_here tree.now.first tree.now.term ≡ true }
+    ensures { result ≡ original_hash unmerged.now tree.now.first tree.now.term }
 {
     if unmerged.is_empty() {
-        return root_hash(hashes);
+        return tree.hash();
     }
-    if height == 0 {
-        if has(unmerged, first) {
-            return leaf_hash_without(first);
+    match tree.parts() {
+        HashedParts::Leaf(_) => {
+            let first = tree.first();
+            if has(unmerged, first) {
+                return leaf_hash_without(first);
+            }
+            tree.hash()
         }
-        return root_hash(hashes);
+        HashedParts::Branch { left, root, right } => {
+            let count = count_before(unmerged, right.first());
+            let old_left = left.hash();
+            let old_right = right.hash();
+            let own = tree.hash();
+            let left = original_hash(&left, &unmerged[..count]);
+            let right = original_hash(&right, &unmerged[count..]);
+            let parent = parent_in(root);
+            original_root_hash(parent, unmerged, &left, &right, &old_left, &old_right, &own)
+        }
     }
-    let middle = middle_of(nodes.len(), height);
-    let second = first + (middle / 2 + 1) as u32;
-    let lower = &hashes[..middle];
-    let upper = &hashes[middle + 1..];
-    let count = count_before(unmerged, second);
-    let before = &unmerged[..count];
-    let behind = &unmerged[count..];
-    let left = original_hash(&nodes[..middle], lower, height - 1, first, before);
-    let right = original_hash(&nodes[middle + 1..], upper, height - 1, second, behind);
-    let old_left = root_hash(lower);
-    let old_right = root_hash(upper);
-    let own = root_hash(hashes);
-    let parent = parent_in(&nodes[middle]);
-    original_root_hash(parent, unmerged, &left, &right, &old_left, &old_right, &own)
+}
+
+/// The tree hash of a leaf that is blank where it was added. No counter counts it.
+fn rehashed_leaf(leaf: Option<&LeafNode>, number: u32, unmerged: &[u32]) -> Hash
+    requires { rises unmerged.now ≡ true }
+    ensures { result ≡ leaf_hash number (leaf_before unmerged.now number (option_copied leaf.entry)) }
+{
+    if has(unmerged, number) {
+        return leaf_hash_without(number);
+    }
+    let mut done = 0;
+    leaf_hash(number, leaf, &mut done)
+}
+
+/// The tree hash of a tree as it was before some leaves were added, whatever its parents list. Each of its nodes is
+/// hashed.
+pub(crate) fn rehashed_original(tree: &Subtree<'_>, unmerged: &[u32]) -> Hash
+    requires { rises unmerged.now ≡ true }
+    ensures { result ≡ original_hash unmerged.now tree.now.first tree.now.term }
+{
+    match tree.parts() {
+        Parts::Leaf(place) => rehashed_leaf(leaf_in(place), tree.first(), unmerged),
+        Parts::Branch { left, root, right } => {
+            let left = rehashed_original(&left, unmerged);
+            let right = rehashed_original(&right, unmerged);
+            branch_hash_without(unmerged, parent_in(root), &left, &right)
+        }
+    }
 }

@@ -1,9 +1,10 @@
 //! The root among the nodes of a tree, and what stands in a place.
 
-ghost use Rattle.std.specs.Prelude.{◌≡◌, ◌<◌};
+ghost use Rattle.std.specs.Prelude.{◌≡◌, ◌<◌, is_some};
 ghost use Rattle.std.specs.Option.{option_copied};
 ghost use Rattle.mls_treemath.specs.Paths.{nodes_in};
-ghost use Rattle.mls_tree_model.specs.Arrays.{leaf_in, parent_in, HasMiddle};
+ghost use Rattle.mls_tree_model.specs.Arrays.{leaf_in, parent_in};
+ghost use Rattle.mls_tree_model.specs.Laws.{HasMiddle};
 
 use mls_leaf::{LeafNode, Node, ParentNode};
 use mls_tree_slot::Slot;
@@ -24,6 +25,16 @@ pub fn leaf_in(node: &Slot) -> Option<&LeafNode>
     match node.node() {
         Some(Node::Leaf(leaf)) => Some(leaf),
         _ => None,
+    }
+}
+
+/// Whether a leaf is in a place.
+pub(crate) fn holds_leaf(node: &Slot) -> bool
+    ensures { result ≡ is_some (leaf_in node.now) }
+{
+    match node.node() {
+        Some(Node::Leaf(_)) => true,
+        _ => false,
     }
 }
 

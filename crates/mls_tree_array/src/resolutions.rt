@@ -1,15 +1,13 @@
 //! Resolutions: the nodes that together reach all members of a tree.
 
-ghost use Rattle.std.specs.Prelude.{◌≡◌, ℕ, ◌+◌, ◌^◌, ◌≤◌, not, length, OnOk};
-ghost use Rattle.mls_treemath.specs.Paths.{nodes_in};
+ghost use Rattle.std.specs.Prelude.{◌≡◌, ℕ, not, OnOk};
 ghost use Rattle.mls_tree_model.specs.Resolution.{is_empty, is_reached};
 ghost use Rattle.mls_tree_model.specs.Places.{resolution_at};
-ghost use Rattle.mls_tree_model.specs.Arrays.{term_of};
 ghost use Rattle.mls_tree_array.specs.Additions.{AddsLeaves, AddsResolution, AddsResolutionAt};
 
-use crate::places::{leaf_in, middle_of, parent_in};
+use crate::places::{holds_leaf, leaf_in, parent_in};
+use crate::subtree::{Parts, Subtree, subtree_at};
 use mls_leaf::ParentNode;
-use mls_tree_slot::Slot;
 use std::alloc::AllocError;
 
 /// Adds the node numbers of a parent's unmerged leaves.
@@ -23,111 +21,59 @@ fn push_unmerged(parent: &ParentNode, out: &mut Vec<u64>) -> Result<(), AllocErr
 }
 
 /// Adds the resolution of the tree to `out`, as node numbers (RFC 9420, 4.1.1).
-#[tactic(auto, using(mls_treemath::proofs::Sizes::nodes_in_pos))]
-pub fn resolution(
-    nodes: &[Slot],
-    height: u32,
-    first: u32,
-    out: &mut Vec<u64>,
-) -> Result<(), AllocError>
-    requires shape { length nodes.now ≡ nodes_in height }
-    requires fits { first + 2 ^ height ≤ 2 ^ 31 }
-    ensures { OnOk result (AddsResolution height first nodes.now out.old out.new) }
+pub fn resolution(tree: &Subtree<'_>, out: &mut Vec<u64>) -> Result<(), AllocError>
+    ensures { OnOk result (AddsResolution tree.now out.old out.new) }
 {
-    if height == 0 {
-        return match leaf_in(&nodes[0]) {
-            Some(_) => Ok(out.push(2 * u64::from(first))?),
+    match tree.parts() {
+        Parts::Leaf(place) => match leaf_in(place) {
+            Some(_) => Ok(out.push(u64::from(tree.number()))?),
             None => Ok(()),
-        };
-    }
-    let middle = middle_of(nodes.len(), height);
-    match parent_in(&nodes[middle]) {
-        Some(parent) => {
-            out.push(2 * u64::from(first) + middle as u64)?;
-            push_unmerged(parent, out)
-        }
-        None => {
-            let second = first + (middle / 2 + 1) as u32;
-            resolution(&nodes[..middle], height - 1, first, out)?;
-            resolution(&nodes[middle + 1..], height - 1, second, out)
-        }
+        },
+        Parts::Branch { left, root, right } => match parent_in(root) {
+            Some(parent) => {
+                out.push(u64::from(tree.number()))?;
+                push_unmerged(parent, out)
+            }
+            None => {
+                resolution(&left, out)?;
+                resolution(&right, out)
+            }
+        },
     }
 }
 
 /// Adds the resolution of node `x`: nothing where no node has that number.
-#[tactic(auto, using(mls_treemath::proofs::Sizes::nodes_in_pos))]
-pub fn resolution_at(
-    nodes: &[Slot],
-    height: u32,
-    first: u32,
-    x: u32,
-    out: &mut Vec<u64>,
-) -> Result<(), AllocError>
-    requires shape { length nodes.now ≡ nodes_in height }
-    requires fits { first + 2 ^ height ≤ 2 ^ 31 }
-    ensures { OnOk result (AddsResolutionAt height first nodes.now x out.old out.new) }
+pub fn resolution_at(tree: &Subtree<'_>, x: u32, out: &mut Vec<u64>) -> Result<(), AllocError>
+    ensures { OnOk result (AddsResolutionAt tree.now x out.old out.new) }
 {
-    if height == 0 {
-        if x == 2 * first {
-            return resolution(nodes, height, first, out);
-        }
-        return Ok(());
-    }
-    let middle = middle_of(nodes.len(), height);
-    let root = 2 * first + middle as u32;
-    let second = first + (middle / 2 + 1) as u32;
-    if x == root {
-        resolution(nodes, height, first, out)
-    } else if x < root {
-        resolution_at(&nodes[..middle], height - 1, first, x, out)
-    } else {
-        resolution_at(&nodes[middle + 1..], height - 1, second, x, out)
+    match subtree_at(tree, u64::from(x)) {
+        Some(subtree) => resolution(&subtree, out),
+        None => Ok(()),
     }
 }
 
 /// Whether the resolution isn't empty.
-#[tactic(auto, using(mls_treemath::proofs::Sizes::nodes_in_pos))]
-pub fn is_reached(nodes: &[Slot], height: u32) -> bool
-    requires shape { length nodes.now ≡ nodes_in height }
-    ensures { (b : ℕ) → result ≡ is_reached b (term_of height nodes.now) }
+pub fn is_reached(tree: &Subtree<'_>) -> bool
+    ensures { (b : ℕ) → result ≡ is_reached b tree.now.term }
 {
-    if height == 0 {
-        return match leaf_in(&nodes[0]) {
+    match tree.parts() {
+        Parts::Leaf(place) => holds_leaf(place),
+        Parts::Branch { left, root, right } => match parent_in(root) {
             Some(_) => true,
-            None => false,
-        };
-    }
-    let middle = middle_of(nodes.len(), height);
-    match parent_in(&nodes[middle]) {
-        Some(_) => true,
-        None => {
-            let left = is_reached(&nodes[..middle], height - 1);
-            left || is_reached(&nodes[middle + 1..], height - 1)
-        }
+            None => {
+                let on_left = is_reached(&left);
+                on_left || is_reached(&right)
+            }
+        },
     }
 }
 
 /// Whether the resolution of node `x` isn't empty; where no node has that number it is.
-#[tactic(auto, using(mls_treemath::proofs::Sizes::nodes_in_pos))]
-pub fn is_reached_at(nodes: &[Slot], height: u32, first: u32, x: u32) -> bool
-    requires shape { length nodes.now ≡ nodes_in height }
-    requires fits { first + 2 ^ height ≤ 2 ^ 31 }
-    ensures { result ≡ not (is_empty (resolution_at first (term_of height nodes.now) x)) }
+pub fn is_reached_at(tree: &Subtree<'_>, x: u32) -> bool
+    ensures { result ≡ not (is_empty (resolution_at tree.now.first tree.now.term x)) }
 {
-    if height == 0 {
-        if x == 2 * first {
-            return is_reached(nodes, height);
-        }
-        return false;
-    }
-    let middle = middle_of(nodes.len(), height);
-    let root = 2 * first + middle as u32;
-    let second = first + (middle / 2 + 1) as u32;
-    if x == root {
-        is_reached(nodes, height)
-    } else if x < root {
-        is_reached_at(&nodes[..middle], height - 1, first, x)
-    } else {
-        is_reached_at(&nodes[middle + 1..], height - 1, second, x)
+    match subtree_at(tree, u64::from(x)) {
+        Some(subtree) => is_reached(&subtree),
+        None => false,
     }
 }

@@ -1,33 +1,33 @@
 //! The size of a tree: halved where its right half has no member, or doubled.
 
-ghost use Rattle.std.specs.Prelude.{◌≡◌, ◌≤◌, ◌<◌, take, OnOk, OnErr};
+ghost use Rattle.std.specs.Prelude.{◌≡◌, ◌≤◌, ◌<◌, OnOk, OnErr};
 ghost use Rattle.mls_treemath.specs.Limits.{max_height};
-ghost use Rattle.mls_treemath.specs.Paths.{nodes_in};
+ghost use Rattle.mls_tree_model.specs.Term.{height};
 ghost use Rattle.mls_tree_model.specs.Edits.{grow, trim};
 ghost use Rattle.mls_tree_model.specs.Arrays.{term_of, in_order};
 ghost use Rattle.mls_tree_array.specs.EndOfMembers.{end_of_members};
 ghost use Rattle.mls_tree_array.specs.Standing.{Stands};
 
-use crate::places::middle_of;
+use crate::subtree::{Parts, Subtree};
 use mls_tree_slot::Slot;
 use std::alloc::AllocError;
 
 /// The height of what a trim keeps: the left half alone as long as the right half has no member (RFC 9420, 7.7), where
 /// `end` is one past the rightmost taken leaf.
-pub fn trimmed_height(nodes: &[Slot], height: u32, end: u32) -> u32
-    requires stands { Stands height nodes.now }
-    requires end { end ≡ end_of_members 0 (term_of height nodes.now) }
-    ensures order { take (nodes_in result) nodes.now ≡ in_order (trim (term_of height nodes.now)) }
-    ensures low { result ≤ height }
+pub fn trimmed_height(tree: &Subtree<'_>, end: u32) -> u32
+    requires { end ≡ end_of_members tree.now.first tree.now.term }
+    ensures value { result ≡ height (trim tree.now.term) }
+    ensures low { result ≤ height tree.now.term }
 {
-    if height == 0 {
-        return 0;
+    match tree.parts() {
+        Parts::Leaf(_) => 0,
+        Parts::Branch { left, right, .. } => {
+            if right.first() < end {
+                return tree.height();
+            }
+            trimmed_height(&left, end)
+        }
     }
-    let middle = middle_of(nodes.len(), height);
-    if middle / 2 + 1 < end as usize {
-        return height;
-    }
-    trimmed_height(&nodes[..middle], height - 1, end)
 }
 
 /// Twice the leaves: a blank root, the tree on its left, blank nodes on its right (RFC 9420, 7.7).

@@ -1,18 +1,16 @@
 //! The nodes that tie the sides of a tree to its root (RFC 9420, 7.9.2).
 
-ghost use Rattle.std.specs.Prelude.{◌≡◌, ◌+◌, ◌^◌, ◌≤◌, true, length, IfOk};
+ghost use Rattle.std.specs.Prelude.{◌≡◌, ◌≤◌, true, IfOk};
 ghost use Rattle.std.specs.List.{list_all};
 ghost use Rattle.std.specs.List.Sorted.{IsNonDecreasing};
 ghost use Rattle.mls_leaf.specs.Parent.{rises};
-ghost use Rattle.mls_treemath.specs.Paths.{nodes_in};
 ghost use Rattle.mls_tree_model.specs.Sets.{has, is_same_set};
-ghost use Rattle.mls_tree_model.specs.Arrays.{term_of};
 ghost use Rattle.mls_tree_array.specs.Witnesses.{numbers_in, others, first_outside, candidate, is_or_among, is_out_or_other};
 
 use crate::lists::has;
 use crate::resolutions::resolution;
+use crate::subtree::Subtree;
 use mls_leaf::ParentNode;
-use mls_tree_slot::Slot;
 use std::alloc::AllocError;
 
 /// Whether a node is one of the leaves of a rising list from `first` on, below `end`.
@@ -111,25 +109,21 @@ fn are_others(leaves: &[u32], first: u32, end: u32, nodes: &mut [u64], node: u64
     leaves_among(leaves, first, end, nodes, node)
 }
 
-/// The only node that can tie a side, whose leaves are those from `first` on, below `end`, to a parent over it: its
-/// resolution is this node and the leaves that the parent lists below it. `found` is room for the resolution, and may
-/// hold it sorted. Besides the walk for it, n nodes and leaves take time in proportion to n log n.
+/// The only node that can tie a side to a parent over it: its resolution is this node and the leaves that the parent
+/// lists below it. `found` is room for the resolution, and may hold it sorted. Besides the walk for it, n nodes and
+/// leaves take time in proportion to n log n.
 pub(crate) fn candidate(
     parent: &ParentNode,
-    nodes: &[Slot],
-    height: u32,
-    first: u32,
-    end: u32,
+    side: &Subtree<'_>,
     found: &mut Vec<u64>,
 ) -> Result<Option<u64>, AllocError>
-    requires shape { length nodes.now ≡ nodes_in height }
-    requires fits { end ≤ 2 ^ 31 }
-    requires end { end ≡ first + 2 ^ height }
-    ensures { IfOk result (λ d. d ≡ candidate parent.now first (term_of height nodes.now)) }
+    ensures { IfOk result (λ d. d ≡ candidate parent.now side.now.first side.now.term) }
 {
     found.clear();
-    resolution(nodes, height, first, found)?;
+    resolution(side, found)?;
     let leaves = parent.unmerged_leaves();
+    let first = side.first();
+    let end = side.end();
     match first_outside(leaves, first, end, found) {
         Some(node) => {
             if !are_others(leaves, first, end, found, node) {

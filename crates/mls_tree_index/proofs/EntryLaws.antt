@@ -284,17 +284,6 @@ module _ (x : ℕ) (k : List ℕ) (b c : ℕ → Option (List ℕ)) (here : c x 
           | inr i_high ↦ as_entries _ _ _ _ (late_entry i i_high (omega arith)) (late_entry j (omega arith) (omega arith)) (es.ascend (i + 1) (j + 1) (omega arith) (omega arith))
         ]
 
-    -- and the place is still that of the entry
-    pub gap_without : IsGap b (remove ns p) (k, x) p
-    gap_without =
-        let wide = width in
-        let inside = stands.0 in
-        record {
-          within = omega arith;
-          below = λ m lt. ap (λ v. entry_cmp v (k, x)) (early_entry m lt) ∙ gap.below m lt;
-          above = λ m ge lt. ap (λ v. is_lt (entry_cmp v (k, x))) (late_entry m ge (omega arith)) ∙ gap.above (m + 1) (omega arith) (omega arith);
-        }
-
     pub without_entry : Entries b (remove ns p)
     without_entry = record { all = all_less; keyed = keyed_less; ascend = ascends_less }
 

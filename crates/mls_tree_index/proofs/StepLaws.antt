@@ -7,9 +7,9 @@ use Rattle.mls_tree_model.specs.Sets.{same_bytes, count}
 use Rattle.mls_tree_index.specs.declared.kind.KeyKind.{KeyKind}
 use Rattle.mls_tree_index.specs.Keys.{key_of, key_in, keys_of, is_key, is_key_at, is_held, repeats_in}
 use Rattle.mls_tree_index.specs.Order.{Entries, IsGap, IsPart}
-use Rattle.mls_tree_index.specs.Indexes.{Listing, Indexes, SameIndex, Without}
+use Rattle.mls_tree_index.specs.Indexes.{AnswersAround, Listing, Indexes, IsPlaceOf, SameIndex, Without}
 use Rattle.mls_tree_index.proofs.OrderLaws.{key_found, key_missed}
-use Rattle.mls_tree_index.proofs.EntryLaws.{with_entry, stands, without_entry, gap_without}
+use Rattle.mls_tree_index.proofs.EntryLaws.{with_entry, stands, without_entry}
 use Rattle.mls_tree_index.proofs.EntryLaws.{found_beside, none_before, no_key}
 use Rattle.mls_tree_index.proofs.CountLaws.{none_blank, counted, counted_at, one_more, repeats_within}
 use Rattle.mls_tree_index.proofs.Laws.{indexes_alike}
@@ -75,6 +75,15 @@ indexes_from kind ns c s same numbers es repeats = record {
 pub same_index : (c : List (Option Node)) (s t : Listing) → SameIndex s t → Indexes c s → Indexes c t
 same_index c s t same is = indexes_from s.kind s.numbers c t same.kind same.numbers is.entries (same.repeats ∙ is.repeats)
 
+-- the answers of a list of numbers are those of a listing with it
+pub place_for : (s : Listing) (kind : KeyKind) (ns : List ℕ) (cells : List (Option Node)) (k : List ℕ) (x p : ℕ) → kind ≡ s.kind → ns ≡ s.numbers → IsPlaceOf kind ns cells k x p → IsPlaceOf s.kind s.numbers cells k x p
+place_for s kind ns cells k x p kinds numbers h =
+    subst (λ j. IsPlaceOf j s.numbers cells k x p) kinds (subst (λ ms. IsPlaceOf kind ms cells k x p) numbers h)
+
+pub around_for : (s : Listing) (kind : KeyKind) (ns : List ℕ) (cells : List (Option Node)) (k : List ℕ) (p : ℕ) (answer : Bool) → kind ≡ s.kind → ns ≡ s.numbers → AnswersAround kind ns cells p k answer → AnswersAround s.kind s.numbers cells p k answer
+around_for s kind ns cells k p answer kinds numbers h =
+    subst (λ j. AnswersAround j s.numbers cells p k answer) kinds (subst (λ ms. AnswersAround kind ms cells p k answer) numbers h)
+
 -- ---- entering a cell and leaving it
 
 module _ (x : ℕ) (cells b c : List (Option Node)) (t : Listing) (without : Without t.kind x cells b c) where
@@ -122,6 +131,9 @@ module _ (x : ℕ) (cells b c : List (Option Node)) (t : Listing) (without : Wit
         plain : (n : ℕ) → n + 0 ≡ n
         plain n = omega arith
 
+    pub not_less : repeats_in (keys_of t.kind b) ≤ repeats_in (keys_of t.kind c)
+    not_less = let sum = more in omega arith
+
     pub entered : (p : ℕ) → Entries (key_in t.kind b) t.numbers → IsGap (key_in t.kind b) t.numbers (k, x) p → Entries (key_in t.kind c) (insert t.numbers p x)
     entered p es gap = with_entry x k (key_in t.kind b) (key_in t.kind c) here without.blank without.others t.numbers p es gap
 
@@ -130,9 +142,6 @@ module _ (x : ℕ) (cells b c : List (Option Node)) (t : Listing) (without : Wit
 
     pub left : (p : ℕ) → Entries (key_in t.kind c) t.numbers → IsGap (key_in t.kind c) t.numbers (k, x) p → Entries (key_in t.kind b) (remove t.numbers p)
     left p es gap = without_entry x k (key_in t.kind b) (key_in t.kind c) here without.blank without.others t.numbers p es gap
-
-    pub gap_left : (p : ℕ) → Entries (key_in t.kind c) t.numbers → IsGap (key_in t.kind c) t.numbers (k, x) p → IsGap (key_in t.kind b) (remove t.numbers p) (k, x) p
-    gap_left p es gap = gap_without x k (key_in t.kind b) (key_in t.kind c) here without.blank without.others t.numbers p es gap
 
     pub few : repeats_in (keys_of t.kind c) ≤ length cells
     few = subst (λ n. repeats_in (keys_of t.kind c) ≤ n) without.wide (repeats_within (key_of t.kind) (none_blank t.kind) c)

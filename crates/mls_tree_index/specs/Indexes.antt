@@ -1,5 +1,5 @@
 -- What an index is of some cells.
-use Rattle.std.specs.Prelude.{◌≡◌, ◌<◌, ◌-◌, ◌∷◌, ◌++◌, ℕ, List, length, Option, None, Some, true, false, Bool, get_or}
+use Rattle.std.specs.Prelude.{◌≡◌, ◌∷◌, ◌++◌, ℕ, List, length, Option, None, true, Bool}
 use Rattle.std.specs.Ordering.{is_lt}
 use Rattle.mls_leaf.specs.declared.node.Node.{Node}
 use Rattle.mls_tree_index.specs.declared.kind.KeyKind.{KeyKind}
@@ -45,13 +45,14 @@ AnswersDistinct t answer = (c : List (Option Node)) → Indexes c t → answer �
 -- an index tells whether one of its cells has a key, where the given cells have all the keys of its cells
 abbrev pub AnswersHeld : Listing → List (Option Node) → List ℕ → Bool → Type 0
 AnswersHeld t cells key answer =
-    (c : List (Option Node)) → IsPart (key_in t.kind c) (key_in t.kind cells) → Indexes c t → answer ≡ is_held t.kind c key
-
--- an index tells whether one of its cells has a key, by the entries around the place where an entry with the key goes
-abbrev pub AnswersAround : Listing → List (Option Node) → ℕ → List ℕ → Bool → Type 0
-AnswersAround t cells place key answer =
     (c : List (Option Node)) → IsPart (key_in t.kind c) (key_in t.kind cells) → Entries (key_in t.kind c) t.numbers →
-    (x : ℕ) → IsGap (key_in t.kind c) t.numbers (key, x) place → answer ≡ is_held t.kind c key
+    answer ≡ is_held t.kind c key
+
+-- a list tells whether one of its cells has a key, by the entries around the place where an entry with the key goes
+abbrev pub AnswersAround : KeyKind → List ℕ → List (Option Node) → ℕ → List ℕ → Bool → Type 0
+AnswersAround k numbers cells place key answer =
+    (c : List (Option Node)) → IsPart (key_in k c) (key_in k cells) → Entries (key_in k c) numbers →
+    (x : ℕ) → IsGap (key_in k c) numbers (key, x) place → answer ≡ is_held k c key
 
 -- an index tells whether no two of some keys and those of its cells are one, where the given cells have all the keys of
 -- its cells
@@ -61,27 +62,13 @@ AnswersNew t cells key keys answer =
     answer ≡ is_distinct same_bytes (key ∷ (keys ++ keys_of t.kind c))
 
 -- a place is the gap for a key with a number, among the keys of each list of cells that the given cells have
-abbrev pub IsPlaceOf : Listing → List (Option Node) → List ℕ → ℕ → ℕ → Type 0
-IsPlaceOf t cells key x place =
-    (at : ℕ → Option (List ℕ)) → IsPart at (key_in t.kind cells) → Entries at t.numbers → IsGap at t.numbers (key, x) place
+abbrev pub IsPlaceOf : KeyKind → List ℕ → List (Option Node) → List ℕ → ℕ → ℕ → Type 0
+IsPlaceOf k numbers cells key x place =
+    (at : ℕ → Option (List ℕ)) → IsPart at (key_in k cells) → Entries at numbers → IsGap at numbers (key, x) place
 
--- whether the entry at a place of an index comes before a key with a number
-abbrev pub is_lower_at : Listing → List (Option Node) → ℕ → List ℕ → ℕ → Bool
-is_lower_at t cells place key x = is_lt (entry_cmp (entry_at (key_in t.kind cells) (get_or t.numbers place 0)) (key, x))
-
--- the entry before a start comes before a key with a number
-abbrev pub IsLowStart : Listing → List (Option Node) → List ℕ → ℕ → ℕ → Type 0
-IsLowStart t cells key x start = 0 < start → is_lower_at t cells (start - 1) key x ≡ true
-
--- the entry at an end doesn't come before a key with a number
-abbrev pub IsHighEnd : Listing → List (Option Node) → List ℕ → ℕ → ℕ → Type 0
-IsHighEnd t cells key x end = end < length t.numbers → is_lower_at t cells end key x ≡ false
-
--- from one index to the other the entry of cell x, with this key, went to its place
-abbrev pub PutsCell : ℕ → List ℕ → ℕ → List (Option Node) → Listing → Listing → Type 0
-PutsCell place key x cells old new =
-    (b c : List (Option Node)) → Without old.kind x cells b c → key_in old.kind cells x ≡ Some key →
-    IsGap (key_in old.kind b) old.numbers (key, x) place → Indexes b old → Indexes c new
+-- whether the entry of cell y comes before a key with a number
+abbrev pub is_lower : KeyKind → List (Option Node) → List ℕ → ℕ → ℕ → Bool
+is_lower k cells key x y = is_lt (entry_cmp (entry_at (key_in k cells) y) (key, x))
 
 -- from one index to the other cell x was entered
 abbrev pub EntersCell : ℕ → List (Option Node) → Listing → Listing → Type 0

@@ -3,5 +3,5 @@ pub mod Order
 pub mod Indexes
 pub mod BlankedCells
 pub mod Entries
-pub mod Moves
-pub mod Gaps
+pub mod Blocks
+pub mod Searches

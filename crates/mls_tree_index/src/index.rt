@@ -1,11 +1,10 @@
 //! The index: numbers of cells in the order of their keys.
 
-ghost use Rattle.std.specs.Prelude.{◌≡◌, ◌+◌, ◌<◌, ◌≤◌, ◌^◌, suc, length, vec_len, IfOk, OnOk};
-ghost use Rattle.std.specs.List.{insert, remove};
-ghost use Rattle.std.specs.Vec.{vec_capacity};
-ghost use Rattle.mls_tree_index.specs.Keys.{is_key_at, IsHolder};
-ghost use Rattle.mls_tree_index.specs.Indexes.{Indexes, SameIndex, AnswersAround, AnswersHeld, PutsCell, EntersCell, LeavesCell, AnswersDistinct};
+ghost use Rattle.std.specs.Prelude.{◌≡◌, ◌<◌, ◌≤◌, ◌^◌, suc, length, IfOk, OnOk};
+ghost use Rattle.mls_tree_index.specs.Keys.{IsHolder};
+ghost use Rattle.mls_tree_index.specs.Indexes.{Indexes, SameIndex, AnswersHeld, EntersCell, LeavesCell, AnswersDistinct};
 
+use crate::blocks::Blocks;
 use crate::entries::{is_again, sort_entries};
 use crate::kind::KeyKind;
 use mls_tree_slot::Slot;
@@ -17,30 +16,17 @@ use std::marker::Model;
 #[derive(Drop)]
 pub struct Index {
     pub(crate) kind: KeyKind,
-    pub(crate) numbers: Vec<u32>,
+    pub(crate) blocks: Blocks,
     pub(crate) repeats: usize,
 }
 
 impl Model for Index {
-    ghost use Rattle.std.specs.Prelude.{◌-◌, vec_len};
-    ghost use Rattle.std.specs.Vec.{vec_capacity};
+    ghost use Rattle.std.specs.List.{concat};
     ghost use Rattle.mls_tree_index.specs.Indexes.{Listing};
 
     ghost Value = { Listing };
 
-    ghost view = { λ t. record { kind = t.kind; numbers = t.numbers.items; repeats = t.repeats; room = vec_capacity t.numbers - vec_len t.numbers } };
-}
-
-/// Takes the number at a place out. `Vec::remove` would move the others in short parts, for twice the work.
-fn take_out(numbers: &mut Vec<u32>, place: usize)
-    requires { place < vec_len numbers.old }
-    ensures items { numbers.new.items ≡ remove numbers.old.items place }
-    ensures len { vec_len numbers.new + 1 ≡ vec_len numbers.old }
-    ensures capacity { vec_capacity numbers.new ≡ vec_capacity numbers.old }
-{
-    let end = numbers.len();
-    numbers.copy_within(place + 1..end, place);
-    numbers.truncate(end - 1);
+    ghost view = { λ t. record { kind = t.kind; numbers = concat t.blocks.blocks; repeats = t.repeats; room = t.blocks.room } };
 }
 
 impl Index {
@@ -59,9 +45,10 @@ impl Index {
             let entry = entries[place];
             numbers.push_reserved(entry.number);
         }
+        let blocks = Blocks::new(alloc, &numbers)?;
         Ok(Index {
             kind,
-            numbers,
+            blocks,
             repeats,
         })
     }
@@ -72,63 +59,29 @@ impl Index {
         ensures more { self.old.room ≤ self.new.room }
         ensures same { SameIndex self.old self.new }
     {
-        self.numbers.reserve(count)
-    }
-
-    /// Whether the entry at a place has this key.
-    fn is_key_at(&self, cells: &[Slot], place: usize, key: &[u8]) -> bool
-        ensures { result ≡ is_key_at self.now.kind cells.now self.now.numbers place key.now }
-    {
-        match self.numbers.get(place) {
-            Some(y) => self.kind.is_key_in(cells, *y, key),
-            None => false,
-        }
-    }
-
-    /// Whether the entry at a place or that before it has this key. Where an entry with the key goes there, no other
-    /// has it if neither does.
-    pub(crate) fn is_beside(&self, cells: &[Slot], place: usize, key: &[u8]) -> bool
-        ensures { AnswersAround self.now cells.now place key.now result }
-    {
-        self.is_key_at(cells, place, key) || place > 0 && self.is_key_at(cells, place - 1, key)
+        self.blocks.reserve(count)
     }
 
     /// Whether some cell has this key. The cells may have more keys than those that the index is of.
     pub fn holds(&self, cells: &[Slot], key: &[u8]) -> bool
         ensures { AnswersHeld self.now cells.now key.now result }
     {
-        self.is_key_at(cells, self.place(cells, key, 0), key)
+        let spot = self.blocks.spot_of(self.kind, cells, key, 0);
+        self.blocks.is_key_at(self.kind, cells, spot, key)
     }
 
     /// A cell that has this key, where there is one.
     pub(crate) fn holder(&self, cells: &[Slot], key: &[u8]) -> Option<u32>
         ensures { Indexes cells.now self.now → IsHolder self.now.kind cells.now key.now result }
     {
-        let place = self.place(cells, key, 0);
-        let x = *self.numbers.get(place)?;
+        let spot = self.blocks.spot_of(self.kind, cells, key, 0);
+        let Some(x) = self.blocks.number_at(spot) else {
+            return None;
+        };
         if self.kind.is_key_in(cells, x, key) {
             Some(x)
         } else {
             None
-        }
-    }
-
-    /// Puts the entry of a cell, with this key, at its place.
-    fn put(&mut self, cells: &[Slot], place: usize, key: &[u8], x: u32)
-        requires room { 0 < self.old.room }
-        requires place { place ≤ length self.old.numbers }
-        ensures kind { self.new.kind ≡ self.old.kind }
-        ensures room { self.old.room ≤ suc self.new.room }
-        ensures numbers { self.new.numbers ≡ insert self.old.numbers place x }
-        ensures put { PutsCell place key.now x cells.now self.old self.new }
-    {
-        let repeats = self.is_beside(cells, place, key);
-        // There is room, so this isn't refused.
-        let Ok(()) = self.numbers.insert(place, x) else {
-            return;
-        };
-        if repeats {
-            self.repeats = self.repeats.saturating_add(1);
         }
     }
 
@@ -142,8 +95,12 @@ impl Index {
         let Some(key) = self.kind.key_in(cells, x) else {
             return;
         };
-        let place = self.place(cells, key, x);
-        self.put(cells, place, key, x);
+        let spot = self.blocks.spot_of(self.kind, cells, key, x);
+        let again = self.blocks.is_beside(self.kind, cells, spot, key);
+        self.blocks.insert(spot, x);
+        if again {
+            self.repeats = self.repeats.saturating_add(1);
+        }
     }
 
     /// Takes a cell out: before it is blanked or replaced. Where the cell has no key, all stays.
@@ -155,13 +112,14 @@ impl Index {
         let Some(key) = self.kind.key_in(cells, x) else {
             return;
         };
-        let place = self.place(cells, key, x);
-        if place >= self.numbers.len() {
+        let spot = self.blocks.spot_of(self.kind, cells, key, x);
+        self.blocks.remove(spot);
+        // Without a repeat no other cell has the key.
+        if self.repeats == 0 {
             return;
         }
-        take_out(&mut self.numbers, place);
-        if self.is_beside(cells, place, key) {
-            self.repeats = self.repeats.saturating_sub(1);
+        if self.holds(cells, key) {
+            self.repeats -= 1;
         }
     }
 
@@ -179,7 +137,7 @@ impl Clone for Index {
     fn clone(&self) -> Result<Index, AllocError> {
         Ok(Index {
             kind: self.kind,
-            numbers: self.numbers.clone()?,
+            blocks: self.blocks.clone()?,
             repeats: self.repeats,
         })
     }

@@ -2,15 +2,13 @@
 #![tactic(auto)]
 
 mod beside;
+mod blocks;
 mod entries;
-mod gaps;
 mod index;
 mod keys;
 mod kind;
-mod moves;
 mod order;
 mod places;
-mod positions;
 mod search;
 
 pub use index::Index;

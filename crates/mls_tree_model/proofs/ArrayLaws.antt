@@ -11,7 +11,7 @@ use Rattle.mls_tree_model.specs.Term.{Term, Leaf, Branch, width, size, is_perfec
 use Rattle.mls_tree_model.specs.Good.{is_within}
 use Rattle.mls_tree_model.specs.Places.{at_node}
 use Rattle.mls_tree_model.proofs.Equations.{at_node_leaf, at_node_no_leaf, at_node_here, at_node_left, at_node_right}
-use Rattle.mls_tree_model.specs.Arrays.{leaf_in, parent_in, leaf_cell, parent_cell, own_node, node_at, term_of, in_order, before, cut, to_nodes, has_last, may_stand, alternates, height_from, height_for, padded, sent_term, from_nodes}
+use Rattle.mls_tree_model.specs.Arrays.{leaf_in, parent_in, leaf_cell, parent_cell, own_node, node_at, term_of, in_order, before, without_last_blanks, to_nodes, has_last, may_stand, alternates, height_from, height_for, with_padding, sent_term, from_nodes}
 use Rattle.mls_tree_model.proofs.ShapeLaws.{size-width, width-perfect}
 
 -- ---- how many nodes a tree has
@@ -114,10 +114,10 @@ cut_before None xs [] w = let s = w.sum in record { many = suc w.many; whole = a
 cut_before None xs (d ∷ ds) w = let s = w.sum in record { many = w.many; whole = ap (λ zs. None ∷ zs) w.whole; sum = omega arith }
 cut_before (Some n) xs ys w = let s = w.sum in record { many = w.many; whole = ap (λ zs. Some n ∷ zs) w.whole; sum = omega arith }
 
-was_cut : (xs : List (Option Node)) → WasCut xs (cut xs)
-unfolding cut
+was_cut : (xs : List (Option Node)) → WasCut xs (without_last_blanks xs)
+unfolding without_last_blanks
 was_cut [] = record { many = 0; whole = refl; sum = refl }
-was_cut (c ∷ cs) = cut_before c cs (cut cs) (was_cut cs)
+was_cut (c ∷ cs) = cut_before c cs (without_last_blanks cs) (was_cut cs)
 
 -- what is left ends in a cell that isn't blank
 last_before : (c : Option Node) (ds : List (Option Node)) → (0 < length ds → has_last ds ≡ true) → 0 < length (before c ds) → has_last (before c ds) ≡ true
@@ -127,10 +127,10 @@ last_before None (d ∷ ds) h some = h (omega arith)
 last_before (Some n) [] h some = refl
 last_before (Some n) (d ∷ ds) h some = h (omega arith)
 
-last-cut : (xs : List (Option Node)) → 0 < length (cut xs) → has_last (cut xs) ≡ true
-unfolding cut
+last-cut : (xs : List (Option Node)) → 0 < length (without_last_blanks xs) → has_last (without_last_blanks xs) ≡ true
+unfolding without_last_blanks
 last-cut [] some = absurd (omega arith)
-last-cut (c ∷ cs) some = last_before c (cut cs) (last-cut cs) some
+last-cut (c ∷ cs) some = last_before c (without_last_blanks cs) (last-cut cs) some
 
 -- every cell stands in its place
 may_leaf : (v : Option LeafNode) → may_stand true (leaf_cell v) ≡ true
@@ -163,12 +163,12 @@ alternates_before even None [] h g = alternates-nil even
 alternates_before even None (d ∷ ds) h g = alternates-more even None (d ∷ ds) h ∙ g
 alternates_before even (Some n) ds h g = alternates-more even (Some n) ds h ∙ g
 
-alternates-cut : (even : Bool) (xs : List (Option Node)) → alternates even xs ≡ true → alternates even (cut xs) ≡ true
-unfolding cut alternates
+alternates-cut : (even : Bool) (xs : List (Option Node)) → alternates even xs ≡ true → alternates even (without_last_blanks xs) ≡ true
+unfolding without_last_blanks alternates
 alternates-cut even [] h = refl
 alternates-cut even (c ∷ cs) h =
     let p = and_parts (may_stand even c) (alternates (not even) cs) h in
-    alternates_before even c (cut cs) p.0 (alternates-cut (not even) cs p.1)
+    alternates_before even c (without_last_blanks cs) p.0 (alternates-cut (not even) cs p.1)
 
 -- nothing is cut before a cell that isn't blank
 before_some : (c : Option Node) (ds : List (Option Node)) → 0 < length ds → before c ds ≡ c ∷ ds
@@ -176,12 +176,12 @@ before_some None [] some = absurd (omega arith)
 before_some None (d ∷ ds) some = refl
 before_some (Some n) ds some = refl
 
-cut-behind : (xs ys : List (Option Node)) → 0 < length (cut ys) → cut (xs ++ ys) ≡ xs ++ cut ys
-unfolding cut
+cut-behind : (xs ys : List (Option Node)) → 0 < length (without_last_blanks ys) → without_last_blanks (xs ++ ys) ≡ xs ++ without_last_blanks ys
+unfolding without_last_blanks
 cut-behind [] ys some = refl
 cut-behind (c ∷ xs) ys some =
     ap (before c) (cut-behind xs ys some)
-    ∙ before_some c (xs ++ cut ys) (let e = length-append xs (cut ys) in omega arith)
+    ∙ before_some c (xs ++ without_last_blanks ys) (let e = length-append xs (without_last_blanks ys) in omega arith)
 
 longer_before : (c : Option Node) (ds es : List (Option Node)) → (0 < length ds → 0 < length es) → 0 < length (before c ds) → 0 < length (before c es)
 longer_before None [] es h some = absurd (omega arith)
@@ -189,25 +189,25 @@ longer_before None (d ∷ ds) [] h some = absurd (let e = h (omega arith) in ome
 longer_before None (d ∷ ds) (e ∷ es) h some = omega arith
 longer_before (Some n) ds es h some = omega arith
 
-cut-front : (xs ys : List (Option Node)) → 0 < length (cut xs) → 0 < length (cut (xs ++ ys))
-unfolding cut
+cut-front : (xs ys : List (Option Node)) → 0 < length (without_last_blanks xs) → 0 < length (without_last_blanks (xs ++ ys))
+unfolding without_last_blanks
 cut-front [] ys some = absurd (omega arith)
-cut-front (c ∷ xs) ys some = longer_before c (cut xs) (cut (xs ++ ys)) (cut-front xs ys) some
+cut-front (c ∷ xs) ys some = longer_before c (without_last_blanks xs) (without_last_blanks (xs ++ ys)) (cut-front xs ys) some
 
 -- a tree with a member in its right half is cut behind its root
-cut_root : (c : Option Parent) (l r : Term) → 0 < length (cut (in_order r)) → size l + 2 ≤ length (cut (in_order l ++ (parent_cell c ∷ in_order r)))
-unfolding cut
+cut_root : (c : Option Parent) (l r : Term) → 0 < length (without_last_blanks (in_order r)) → size l + 2 ≤ length (without_last_blanks (in_order l ++ (parent_cell c ∷ in_order r)))
+unfolding without_last_blanks
 cut_root c l r some =
-    let root = before_some (parent_cell c) (cut (in_order r)) some in
+    let root = before_some (parent_cell c) (without_last_blanks (in_order r)) some in
     let e = ap length root in
     let f = ap length (cut-behind (in_order l) (parent_cell c ∷ in_order r) (let z = e in omega arith)) in
-    let g = length-append (in_order l) (before (parent_cell c) (cut (in_order r))) in
+    let g = length-append (in_order l) (before (parent_cell c) (without_last_blanks (in_order r))) in
     let s = length-in_order l in
     omega arith
 
 -- so some cell of a tree with a member is left
-cut_member : (t : Term) → has_leaf t ≡ true → 0 < length (cut (in_order t))
-unfolding has_leaf in_order cut
+cut_member : (t : Term) → has_leaf t ≡ true → 0 < length (without_last_blanks (in_order t))
+unfolding has_leaf in_order without_last_blanks
 cut_member (Leaf None) h = absurd (true≢false (sym h))
 cut_member (Leaf (Some v)) h = omega arith
 cut_member (Branch c l r) h =
@@ -280,7 +280,7 @@ least_height h n small enough = least n 0 h n (omega arith) (fits h small) small
 
 -- ---- what is sent is read again
 
-sent_long : (h : ℕ) (t : Term) → is_perfect h t ≡ true → is_full_width t ≡ true → (k : ℕ) → k < h → nodes_in k < length (cut (in_order t))
+sent_long : (h : ℕ) (t : Term) → is_perfect h t ≡ true → is_full_width t ≡ true → (k : ℕ) → k < h → nodes_in k < length (without_last_blanks (in_order t))
 unfolding is_perfect is_full_width in_order
 sent_long h (Leaf v) p f k lt = absurd (leaf_is_low h v p k lt)
   where
@@ -295,7 +295,7 @@ sent_long (suc h) (Branch c l r) p f k lt =
     let m = nodes_in_up k h (omega arith) in
     omega arith
 
-sent_some : (t : Term) → is_full_width t ≡ true → 0 < length (cut (in_order t))
+sent_some : (t : Term) → is_full_width t ≡ true → 0 < length (without_last_blanks (in_order t))
 sent_some t f = cut_member t (full_has_leaf t f)
   where
     full_has_leaf : (t : Term) → is_full_width t ≡ true → has_leaf t ≡ true
@@ -303,32 +303,32 @@ sent_some t f = cut_member t (full_has_leaf t f)
     full_has_leaf (Branch c l r) f = unfold has_leaf in or_right (has_leaf l) (has_leaf r) (unfold is_full_width in f)
 
 -- the height and the list of a tree that is sent
-sent_height : (h : ℕ) (t : Term) → is_perfect h t ≡ true → is_full_width t ≡ true → height_for (length (cut (in_order t))) ≡ h
+sent_height : (h : ℕ) (t : Term) → is_perfect h t ≡ true → is_full_width t ≡ true → height_for (length (without_last_blanks (in_order t))) ≡ h
 sent_height h t p f =
     let w = (was_cut (in_order t)).sum in
     let e = length-in_order t in
     let s = size-perfect h t p in
-    least_height h (length (cut (in_order t))) (sent_long h t p f) (omega arith)
+    least_height h (length (without_last_blanks (in_order t))) (sent_long h t p f) (omega arith)
 
-sent_list : (h : ℕ) (t : Term) → is_perfect h t ≡ true → is_full_width t ≡ true → padded (cut (in_order t)) ≡ in_order t
-unfolding padded
+sent_list : (h : ℕ) (t : Term) → is_perfect h t ≡ true → is_full_width t ≡ true → with_padding (without_last_blanks (in_order t)) ≡ in_order t
+unfolding with_padding
 sent_list h t p f =
     let w = was_cut (in_order t) in
     let sum = w.sum in
     let e = length-in_order t in
     let s = size-perfect h t p in
-    ap (λ j. cut (in_order t) ++ replicate (nodes_in j - length (cut (in_order t))) None) (sent_height h t p f)
-    ∙ ap (λ j. cut (in_order t) ++ replicate j None) (let k : nodes_in h - length (cut (in_order t)) ≡ w.many = omega arith in k)
+    ap (λ j. without_last_blanks (in_order t) ++ replicate (nodes_in j - length (without_last_blanks (in_order t))) None) (sent_height h t p f)
+    ∙ ap (λ j. without_last_blanks (in_order t) ++ replicate j None) (let k : nodes_in h - length (without_last_blanks (in_order t)) ≡ w.many = omega arith in k)
     ∙ w.whole
 
 sent_again : (h : ℕ) (t : Term) → is_perfect h t ≡ true → is_full_width t ≡ true → sent_term (to_nodes t) ≡ t
 unfolding sent_term to_nodes
 sent_again h t p f =
-    ap (λ j. term_of j (padded (cut (in_order t)))) (sent_height h t p f)
+    ap (λ j. term_of j (with_padding (without_last_blanks (in_order t)))) (sent_height h t p f)
     ∙ ap (term_of h) (sent_list h t p f)
     ∙ term_of-in_order h t p
 
-sent_in_place : (t : Term) → alternates true (cut (in_order t)) ≡ true
+sent_in_place : (t : Term) → alternates true (without_last_blanks (in_order t)) ≡ true
 sent_in_place t =
     alternates-cut true (in_order t)
     (ap (alternates true) (sym (append-nil (in_order t))) ∙ alternates-in_order t [] ∙ alternates-nil false)

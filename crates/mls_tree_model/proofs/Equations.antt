@@ -13,6 +13,7 @@ use Rattle.mls_tree_model.specs.Way.{Step, step_at, way, is_filtered, filtered_w
 use Rattle.mls_tree_model.specs.Places.{at_node}
 use Rattle.mls_tree_model.specs.Edits.{put, enter, list_leaf, grow, trim, or_else, first_blank, place_in, room_for, add, update, remove}
 use Rattle.mls_tree_model.specs.Lists.{parent_passes, all_parents}
+use Rattle.mls_tree_model.specs.FirstParents.{first_parent}
 use Rattle.mls_tree_model.specs.Hashes.{tree_hash, unlist_leaves, original_tree}
 use Rattle.mls_tree_model.specs.Merge.{new_parent, keys_below, hash_below, merge, path_hash}
 use Rattle.mls_tree_model.specs.Keys.{gather, members, passes, all_members}
@@ -67,6 +68,10 @@ module _ (b : ℕ) (v : Option LeafNode) where
   pub all_parents_leaf : (q : ℕ → Parent → Term → Term → Bool) → all_parents q b (Leaf v) ≡ true
   unfolding all_parents
   all_parents_leaf q = refl
+
+  pub first_parent_leaf : (q : ℕ → Parent → Term → Term → Bool) → first_parent q b (Leaf v) ≡ None
+  unfolding first_parent
+  first_parent_leaf q = refl
 
   pub at_node_leaf : {A : Type 0} (none : A) (f : ℕ → Term → A) (n : ℕ) → n ≡ 2 * b → at_node none f b (Leaf v) n ≡ f b (Leaf v)
   unfolding at_node
@@ -192,6 +197,10 @@ module _ (b : ℕ) (c : Option Parent) (l r : Term) where
   pub all_parents_branch : (q : ℕ → Parent → Term → Term → Bool) → all_parents q b (Branch c l r) ≡ (parent_passes q b c l r && (all_parents q b l && all_parents q (b + width l) r))
   unfolding all_parents
   all_parents_branch q = refl
+
+  pub first_parent_branch : (q : ℕ → Parent → Term → Term → Bool) → first_parent q b (Branch c l r) ≡ or_else (first_parent q b l) (or_else (first_parent q (b + width l) r) (if parent_passes q b c l r then None else Some (2 * b + size l)))
+  unfolding first_parent
+  first_parent_branch q = refl
 
 pub resolution_parent : (b : ℕ) (p : Parent) (l r : Term) → resolution b (Branch (Some p) l r) ≡ (2 * b + size l) ∷ leaf_numbers p.unmerged_leaves
 unfolding resolution

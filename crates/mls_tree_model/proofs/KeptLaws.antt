@@ -5,12 +5,13 @@ use Rattle.mls_tree_model.specs.Term.{Term, Leaf, width, height, is_perfect, has
 use Rattle.mls_tree_model.specs.Sets.{same_bytes, is_distinct}
 use Rattle.mls_tree_model.specs.Edits.{put, enter, grow, first_blank, place_for, room_for, place_in, add, update, remove}
 use Rattle.mls_tree_model.specs.Lists.{all_parents}
-use Rattle.mls_tree_model.specs.Merge.{merge, IsPath}
+use Rattle.mls_tree_model.specs.Merge.{merge}
 use Rattle.mls_tree_model.specs.Keys.{gather, leaf_key, parent_key, leaf_signature, encryption_keys, signature_keys, all_members}
 use Rattle.mls_tree_model.specs.Good.{Rules, IsGood, AreNew, has_good_shape, is_within, has_good_lists, has_good_hashes, has_distinct_keys, has_distinct_clients, is_all_signed, is_all_capable, is_all_fit}
 use Rattle.mls_tree_model.proofs.CountLaws.{distinct-put, distinct-remove, distinct-grow, distinct-enter, distinct-merge, key-list_leaf, key_step, no_step}
 use Rattle.mls_tree_model.proofs.PlaceLaws.{first_blank_at, leaf_at-grow}
 use Rattle.mls_tree_model.proofs.SoundLaws.{sound_of_good, good_of_sound, fit_of_new, sound_update, sound_remove, sound_add, sound_merge}
+use Rattle.mls_tree_model.specs.Laws.{IsPath}
 
 pub good_single : (rules : Rules) (x : LeafNode) → 0 < rules.limit → AreNew rules 0 x [] (Leaf None) → IsGood rules (Leaf (Some x))
 unfolding width height is_perfect is_full_width all_parents gather all_members is_within has_good_shape has_good_lists has_good_hashes has_distinct_keys has_distinct_clients is_all_signed is_all_capable is_all_fit

@@ -4,6 +4,7 @@ pub mod ClientLaws
 pub mod CountLaws
 pub mod EntryLaws
 pub mod Equations
+pub mod FirstLaws
 pub mod GoodLaws
 pub mod KeptLaws
 pub mod LengthLaws

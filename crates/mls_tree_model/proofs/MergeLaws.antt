@@ -11,10 +11,11 @@ use Rattle.mls_tree_model.specs.Resolution.{resolution}
 use Rattle.mls_tree_model.specs.Lists.{parent_passes, all_parents, lists_here, rises_here}
 use Rattle.mls_tree_model.specs.Hashes.{parent_hash, hash_at, is_some_bytes, is_witness, has_witness, is_parent_hash_valid}
 use Rattle.mls_tree_model.specs.Resolution.{is_empty, is_reached}
-use Rattle.mls_tree_model.specs.Merge.{new_parent, keys_below, hash_below, merge, path_hash, HasHead, IsPath}
+use Rattle.mls_tree_model.specs.Merge.{new_parent, keys_below, hash_below, merge, path_hash}
 use Rattle.mls_tree_model.proofs.SetLaws.{any_from, has-filter, set_from, eqb_refl}
 use Rattle.mls_tree_model.proofs.ParentLaws.{parents_parts, parents_from}
 use Rattle.mls_tree_model.proofs.ShapeLaws.{size-width}
+use Rattle.mls_tree_model.specs.Laws.{HasHead, IsPath}
 
 empty_is : (xs : List ℕ) → is_empty xs ≡ true → xs ≡ []
 empty_is [] e = refl

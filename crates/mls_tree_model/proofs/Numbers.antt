@@ -9,9 +9,10 @@ use Rattle.mls_treemath.proofs.Leaves.{path_to-leaf}
 use Rattle.mls_tree_model.proofs.Equations.{at_node_leaf, at_node_here, at_node_left, at_node_right, leaf_at_leaf, leaf_at_left, leaf_at_right}
 use Rattle.mls_tree_model.specs.Term.{Term, Leaf, Branch, width, is_perfect, leaf_at}
 use Rattle.mls_tree_model.specs.Places.{at_node}
-use Rattle.mls_tree_model.specs.Arrays.{leaf_in, own_node, node_at, under}
+use Rattle.mls_tree_model.specs.Arrays.{leaf_in, own_node, node_at}
 use Rattle.mls_tree_model.proofs.ShapeLaws.{size-width, width-perfect}
 use Rattle.mls_tree_model.proofs.ArrayLaws.{leaf_in-cell, size-perfect}
+use Rattle.mls_tree_model.specs.Laws.{under}
 
 leaf_is_node : (b : ℕ) (t : Term) (i : ℕ) → b ≤ i → i < b + width t → leaf_in (at_node None own_node b t (2 * i)) ≡ leaf_at b t i
 unfolding width

@@ -7,7 +7,7 @@ use Rattle.mls_tree_model.specs.Term.{Term, width, height, is_perfect, has_leaf,
 use Rattle.mls_tree_model.specs.Edits.{put, enter, grow, trim, first_blank, place_for, room_for, place_in, add, update, remove}
 use Rattle.mls_tree_model.specs.Lists.{all_parents, lists_here, rises_here}
 use Rattle.mls_tree_model.specs.Hashes.{is_parent_hash_valid}
-use Rattle.mls_tree_model.specs.Merge.{merge, IsPath}
+use Rattle.mls_tree_model.specs.Merge.{merge}
 use Rattle.mls_tree_model.specs.Keys.{encryption_keys, all_members}
 use Rattle.mls_tree_model.specs.Good.{Rules, IsGood, IsSound, AreNew, AreFit, has_good_shape, is_within, has_good_lists, has_good_hashes, has_distinct_keys, has_distinct_clients, is_all_signed, is_all_capable, is_all_fit}
 use Rattle.mls_tree_model.proofs.ShapeLaws.{width-put, perfect-put, perfect-enter, perfect-grow, perfect-trim, full-trim}
@@ -17,6 +17,7 @@ use Rattle.mls_tree_model.proofs.AddLaws.{valid-enter}
 use Rattle.mls_tree_model.proofs.MergeLaws.{width-merge, valid-merge, lists-merge, rises-merge}
 use Rattle.mls_tree_model.proofs.PlaceLaws.{first_blank_at, leaf_at-grow, width-grow, width-trim, full-put, full-enter, full-merge, full-grow, perfect-merge, perfect_itself}
 use Rattle.mls_tree_model.proofs.MemberLaws.{members-put, members-enter, members-merge, all_members-grow, all_members-trim, keys-put, keys-enter, keys-merge, keys-grow, keys-trim}
+use Rattle.mls_tree_model.specs.Laws.{IsPath}
 
 pub within_from : (limit : ℕ) (t : Term) → width t ≤ limit → is_within limit t ≡ true
 unfolding is_within

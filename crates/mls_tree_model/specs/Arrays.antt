@@ -1,11 +1,11 @@
 -- Trees as lists of their nodes in order (RFC 9420, appendix C).
-use Rattle.std.specs.Prelude.{◌≡◌, ℕ, zero, suc, ◌+◌, ◌-◌, ◌*◌, ◌^◌, ◌<◌, nat_le, Bool, true, false, not, ◌&&◌, if◌then◌else◌, List, [], ◌∷◌, ◌++◌, length, take, drop, replicate, slice_index_or, Option, Some, None, is_some, Result, Ok}
+use Rattle.std.specs.Prelude.{ℕ, zero, suc, ◌-◌, nat_le, Bool, true, false, not, ◌&&◌, if◌then◌else◌, List, [], ◌∷◌, ◌++◌, length, take, drop, replicate, slice_index_or, Option, Some, None, is_some, Result, Ok}
 use Rattle.mls_wire.specs.Checks.{require, ◌>>◌}
 use Rattle.mls_leaf.specs.Parent.{Parent}
 use Rattle.mls_leaf.specs.declared.leaf.LeafNode.{LeafNode}
 use Rattle.mls_leaf.specs.declared.node.Node.{Node}
 use Rattle.mls_leaf.specs.declared.node.Node.TheVariants.{Leaf as in_leaf, Parent as in_parent}
-use Rattle.mls_treemath.specs.Paths.{Path, nodes_in}
+use Rattle.mls_treemath.specs.Paths.{nodes_in}
 use Rattle.mls_tree_model.specs.Term.{Term, Leaf, Branch, is_full_width}
 use Rattle.mls_tree_model.specs.Places.{at_node}
 use Rattle.mls_tree_model.specs.Good.{is_within}
@@ -32,7 +32,7 @@ abbrev pub parent_cell : Option Parent → Option Node
 parent_cell None = None
 parent_cell (Some p) = Some (in_parent p)
 
--- the tree of height h whose nodes stand in a list: the root is in the middle
+-- the tree of height h whose nodes stand in a list: the root is in the middle (RFC 9420, appendix C)
 unfoldable pub term_of : ℕ → List (Option Node) → Term
 term_of zero xs = Leaf (leaf_in (slice_index_or xs 0 None))
 term_of (suc h) xs =
@@ -40,15 +40,7 @@ term_of (suc h) xs =
     (term_of h (take (nodes_in h) xs))
     (term_of h (drop (suc (nodes_in h)) xs))
 
--- a list of n nodes, a tree of height h above a leaf, has m of them on either side of its root
-pub record HasMiddle (h n m : ℕ) : Type 0 where
-  pub side : m ≡ nodes_in (h - 1)
-  pub whole : n ≡ m + m + 1
-  pub leaves : m + 1 ≡ 2 * 2 ^ (h - 1)
-  pub all : 2 ^ h ≡ 2 * 2 ^ (h - 1)
-  pub positive : 0 < m
-
--- the nodes of a tree in order
+-- the nodes of a tree in order (RFC 9420, appendix C)
 unfoldable pub in_order : Term → List (Option Node)
 in_order (Leaf v) = leaf_cell v ∷ []
 in_order (Branch c l r) = in_order l ++ (parent_cell c ∷ in_order r)
@@ -62,13 +54,13 @@ before None (d ∷ ds) = None ∷ d ∷ ds
 before (Some n) ds = Some n ∷ ds
 
 -- a list without the blank cells at its end
-unfoldable pub cut : List (Option Node) → List (Option Node)
-cut [] = []
-cut (c ∷ cs) = before c (cut cs)
+unfoldable pub without_last_blanks : List (Option Node) → List (Option Node)
+without_last_blanks [] = []
+without_last_blanks (c ∷ cs) = before c (without_last_blanks cs)
 
 -- the nodes that are sent: all up to the last one that isn't blank
 unfoldable pub to_nodes : Term → List (Option Node)
-to_nodes t = cut (in_order t)
+to_nodes t = without_last_blanks (in_order t)
 
 -- whether there is a last cell, and it isn't blank
 unfoldable pub has_last : List (Option Node) → Bool
@@ -97,16 +89,16 @@ unfoldable pub height_for : ℕ → ℕ
 height_for n = height_from n 0 n
 
 -- a list of nodes with blank ones behind it, up to the least tree that holds them (RFC 9420, 12.4.3.3)
-unfoldable pub padded : List (Option Node) → List (Option Node)
-padded xs = xs ++ replicate (nodes_in (height_for (length xs)) - length xs) None
+unfoldable pub with_padding : List (Option Node) → List (Option Node)
+with_padding xs = xs ++ replicate (nodes_in (height_for (length xs)) - length xs) None
 
 -- the tree that nodes stand for
 unfoldable pub sent_term : List (Option Node) → Term
-sent_term xs = term_of (height_for (length xs)) (padded xs)
+sent_term xs = term_of (height_for (length xs)) (with_padding xs)
 
 -- the tree that nodes stand for, with the checks of its shape and size: `TreeShape` (20) without a last node that
 -- isn't blank, with a leaf or a parent out of its place, or without a member in the right half; `TreeFull` (21) where
--- it is too large
+-- it is too large (RFC 9420, 7.7 and 12.4.3.3)
 unfoldable pub from_nodes : ℕ → List (Option Node) → Result Term ℕ
 from_nodes limit xs =
     require 20 (has_last xs)
@@ -125,10 +117,3 @@ own_node b (Branch c l r) = parent_cell c
 -- node n of a tree whose first leaf is b: none where it is blank or outside the tree
 unfoldable pub node_at : ℕ → Term → ℕ → Option Node
 node_at b t n = at_node None own_node b t n
-
--- the subtree at the end of a way down from the root
-unfoldable pub under : Path → Term → Option Term
-under [] t = Some t
-under (side ∷ p) (Leaf v) = None
-under (false ∷ p) (Branch c l r) = under p l
-under (true ∷ p) (Branch c l r) = under p r

@@ -24,7 +24,8 @@ list_leaf i (Some p) = Some (with_leaf i p)
 unfoldable pub enter : ℕ → Term → ℕ → LeafNode → Term
 enter b (Leaf v) i x = Leaf (Some x)
 enter b (Branch c l r) i x =
-    if nat_lt i (b + width l) then Branch (list_leaf i c) (enter b l i x) r else Branch (list_leaf i c) l (enter (b + width l) r i x)
+    if nat_lt i (b + width l) then Branch (list_leaf i c) (enter b l i x) r
+    else Branch (list_leaf i c) l (enter (b + width l) r i x)
 
 -- twice the leaves: a blank root, the tree on its left, blank nodes on its right (RFC 9420, 7.7)
 unfoldable pub grow : Term → Term

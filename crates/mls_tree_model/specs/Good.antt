@@ -12,11 +12,11 @@ use Rattle.mls_tree_model.specs.Keys.{encryption_keys, signature_keys, all_membe
 -- what a group asks of its tree beyond the tree itself: the most leaves, and tests of a leaf by its number and of a key
 pub record Rules : Type 0 where
   pub limit : ℕ
-  -- whether a leaf's signature verifies (51)
+  -- whether a leaf's signature verifies (`LeafSignature`, 51)
   pub is_signed : ℕ → LeafNode → Bool
-  -- whether a leaf has the capabilities that the group needs (52)
+  -- whether a leaf has the capabilities that the group needs (`LeafCapability`, 52)
   pub is_capable : LeafNode → Bool
-  -- whether a key is fit for sealing (36)
+  -- whether a key is fit for sealing (`BadKey`, 36)
   pub is_fit : List ℕ → Bool
 
 -- ---- the checks of a whole tree, each a test
@@ -74,7 +74,7 @@ pub record IsGood (rules : Rules) (t : Term) : Type 0 where
   -- as every tree of a group: all leaves are at one depth, and each list of unmerged leaves rises
   pub perfect : is_perfect (height t) t ≡ true
   pub rising : all_parents rises_here 0 t ≡ true
-  -- the checks, from 20 to 36
+  -- the checks, from `TreeShape` (20) to `BadKey` (36)
   pub shape : has_good_shape t ≡ true
   pub within : is_within rules.limit t ≡ true
   pub lists : has_good_lists t ≡ true

@@ -1,4 +1,4 @@
--- Tree hashes, original siblings, parent hashes and their validity.
+-- Tree hashes, original siblings, parent hashes and their validity (RFC 9420, 7.8 and 7.9).
 use Rattle.std.specs.Prelude.{ℕ, ◌+◌, ◌*◌, ◌==◌, nat_lt, Bool, false, not, ◌&&◌, ◌||◌, if◌then◌else◌, List, filter, Option, Some, None}
 use Rattle.std.specs.List.{list_any}
 use Rattle.mls_leaf.specs.Parent.{Parent}
@@ -33,7 +33,8 @@ parent_hash p m s = sibling_hash p.encryption_key p.parent_hash (tree_hash m (or
 unfoldable pub hash_at : ℕ → Term → ℕ → Option (List ℕ)
 hash_at b (Leaf v) d = if d == 2 * b then leaf_parent_hash v else None
 hash_at b (Branch c l r) d =
-    if d == 2 * b + size l then own_parent_hash c else if nat_lt d (2 * b + size l) then hash_at b l d else hash_at (b + width l) r d
+    if d == 2 * b + size l then own_parent_hash c
+    else if nat_lt d (2 * b + size l) then hash_at b l d else hash_at (b + width l) r d
 
 -- whether there is a byte string, and it is this one
 abbrev pub is_some_bytes : Option (List ℕ) → List ℕ → Bool

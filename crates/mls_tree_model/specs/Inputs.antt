@@ -1,4 +1,4 @@
--- The hashes of nodes.
+-- The hashes of nodes, of what they hold and of the hashes below them (RFC 9420, 7.8 and 7.9).
 use Rattle.std.specs.Prelude.{ℕ, List, Option}
 use Rattle.sha2.specs.Sha256.{sha256}
 use Rattle.mls_leaf.specs.Parent.{Parent}
@@ -13,6 +13,7 @@ leaf_hash i v = sha256 (tree_hash_input_of_leaf i v)
 unfoldable pub branch_hash : Option Parent → List ℕ → List ℕ → List ℕ
 branch_hash c left right = sha256 (tree_hash_input_of_parent c left right)
 
--- the parent hash by a parent's key, its own parent hash and the hash of its original sibling (RFC 9420, 7.9)
+-- the parent hash of a parent, by its key, the parent hash that it holds and the hash of the original sibling (RFC
+-- 9420, 7.9)
 unfoldable pub sibling_hash : List ℕ → List ℕ → List ℕ → List ℕ
 sibling_hash key hash sibling = sha256 (parent_hash_input key hash sibling)

@@ -1,26 +1,54 @@
 -- The laws of trees as terms.
-use Rattle.std.specs.Prelude.{◌≡◌, ℕ, suc, ◌+◌, ◌*◌, ◌^◌, ◌<◌, ◌≤◌, ◌==◌, ◌||◌, Bool, true, false, not, nat_eq, if◌then◌else◌, List, [], ◌∷◌, map, filter, length, slice_index_or, Option, Some, None, is_some, is_none, IsSome, Ok, ◌⊎◌, ◌&&◌}
+use Rattle.std.specs.Prelude.{◌≡◌, ℕ, suc, ◌+◌, ◌*◌, ◌^◌, ◌<◌, ◌≤◌, ◌==◌, ◌||◌, Bool, true, false, not, nat_eq, if◌then◌else◌, List, [], ◌∷◌, map, filter, length, slice_index_or, Option, Some, None, is_some, is_none, IsSome, Ok, ◌⊎◌, ◌&&◌, ◌-◌}
 use Rattle.std.specs.List.{list_all}
 use Rattle.mls_leaf.specs.Parent.{Parent, rising_with}
 use Rattle.mls_leaf.specs.declared.leaf.LeafNode.{LeafNode}
-use Rattle.mls_tree_model.specs.Term.{Term, Leaf, width, size, height, is_perfect, has_leaf, is_full_width, leaf_at, leaf_of}
+use Rattle.mls_tree_model.specs.Term.{Term, Leaf, width, size, height, is_perfect, has_leaf, is_full_width, leaf_at, leaf_of, Branch}
 use Rattle.mls_tree_model.specs.Sets.{has, leaf_numbers, is_distinct}
 use Rattle.mls_tree_model.specs.Resolution.{resolution, is_reached}
 use Rattle.mls_tree_model.specs.Way.{way, is_filtered, is_beside, filtered_path, path_length}
 use Rattle.mls_tree_model.specs.Node.{source_hash}
 use Rattle.mls_tree_model.specs.Places.{at_node}
-use Rattle.mls_treemath.specs.Paths.{Path, path_to, index_of, leaf_path}
+use Rattle.mls_treemath.specs.Paths.{Path, path_to, index_of, leaf_path, nodes_in}
 use Rattle.mls_treemath.specs.Steps.{above}
 use Rattle.mls_tree_model.specs.Edits.{put, enter, grow, trim, first_blank, place_in, add, update, remove}
 use Rattle.mls_tree_model.specs.Lists.{all_parents, lists_here, rises_here, is_listed_anywhere}
 use Rattle.mls_tree_model.specs.Hashes.{tree_hash, original_tree, hash_at, is_parent_hash_valid}
-use Rattle.mls_tree_model.specs.Merge.{merge, merge_path, path_parent_hash, HasHead, IsPath}
+use Rattle.mls_tree_model.specs.Merge.{merge, merge_path, path_parent_hash, path_hash}
 use Rattle.mls_tree_model.specs.Keys.{leaf_key, encryption_keys, signature_keys, members, passes, all_members}
 use Rattle.mls_tree_model.specs.HeldKeys.{holds_key_of, held_nodes}
 use Rattle.mls_wire.specs.Checks.{passed}
 use Rattle.mls_leaf.specs.declared.node.Node.{Node}
 use Rattle.mls_tree_model.specs.Good.{Rules, IsGood, AreNew, has_good_shape, is_within, tree_checks, IsSound, AreFit, has_good_lists, has_good_hashes, has_distinct_keys, has_distinct_clients}
-use Rattle.mls_tree_model.specs.Arrays.{leaf_in, term_of, in_order, to_nodes, from_nodes, node_at, under}
+use Rattle.mls_tree_model.specs.Arrays.{leaf_in, term_of, in_order, to_nodes, from_nodes, node_at}
+
+-- a list of n nodes, a tree of height h above a leaf, has m of them on either side of its root
+pub record HasMiddle (h n m : ℕ) : Type 0 where
+  pub side : m ≡ nodes_in (h - 1)
+  pub whole : n ≡ m + m + 1
+  pub leaves : m + 1 ≡ 2 * 2 ^ (h - 1)
+  pub all : 2 ^ h ≡ 2 * 2 ^ (h - 1)
+  pub positive : 0 < m
+
+-- the subtree at the end of a way down from the root
+unfoldable pub under : Path → Term → Option Term
+under [] t = Some t
+under (side ∷ p) (Leaf v) = None
+under (false ∷ p) (Branch c l r) = under p l
+under (true ∷ p) (Branch c l r) = under p r
+
+-- a tree whose resolution is one node, with this parent hash
+pub record HasHead (b : ℕ) (t : Term) (h : List ℕ) : Type 0 where
+  pub node : ℕ
+  pub is_all : resolution b t ≡ node ∷ []
+  pub is_hash : hash_at b t node ≡ Some h
+  pub low : 2 * b ≤ node
+  pub high : node < 2 * b + size t
+
+-- a path has a key for each of its parents, and the new leaf has the path's parent hash
+pub record IsPath (b : ℕ) (t : Term) (i : ℕ) (ks : List (List ℕ)) (h : List ℕ) (x : LeafNode) : Type 0 where
+  pub keys : length ks ≡ path_length b t i
+  pub hash : source_hash x.source ≡ Some (path_hash b t i ks h)
 
 -- leaf i is one of a tree whose first leaf is b
 pub record IsIn (b : ℕ) (t : Term) (i : ℕ) : Type 0 where

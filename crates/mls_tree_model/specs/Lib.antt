@@ -8,10 +8,12 @@ pub mod Edits
 pub mod Lists
 pub mod Inputs
 pub mod Hashes
+pub mod LastPath
 pub mod Merge
 pub mod Keys
 pub mod HeldKeys
 pub mod Good
+pub mod FirstParents
 pub mod Arrays
 pub mod Laws
 pub mod Examples

@@ -30,7 +30,8 @@ is_listed b (Branch c l r) u =
 -- (RFC 9420, 12.4.3.1)
 unfoldable pub may_be_listed : ℕ → Term → Term → ℕ → Bool
 may_be_listed b l r u =
-    nat_le b u && (nat_lt u (b + (width l + width r)) && (if nat_lt u (b + width l) then is_listed b l u else is_listed (b + width l) r u))
+    nat_le b u && (nat_lt u (b + (width l + width r))
+    && (if nat_lt u (b + width l) then is_listed b l u else is_listed (b + width l) r u))
 
 -- whether a parent lists only what it may list (RFC 9420, 12.4.3.1)
 unfoldable pub lists_here : ℕ → Parent → Term → Term → Bool

@@ -1,12 +1,10 @@
--- What a commit's path does to a tree.
-use Rattle.std.specs.Prelude.{◌≡◌, ℕ, ◌+◌, ◌*◌, ◌<◌, ◌≤◌, nat_lt, Bool, true, false, if◌then◌else◌, List, [], ◌∷◌, reverse, length, Option, Some, None}
+-- What a commit's path does to a tree (RFC 9420, 7.5).
+use Rattle.std.specs.Prelude.{ℕ, ◌+◌, nat_lt, Bool, true, false, if◌then◌else◌, List, [], ◌∷◌, reverse, Option, Some, None}
 use Rattle.mls_leaf.specs.Parent.{Parent}
 use Rattle.mls_leaf.specs.declared.leaf.LeafNode.{LeafNode}
-use Rattle.mls_tree_model.specs.Node.{source_hash}
-use Rattle.mls_tree_model.specs.Term.{Term, Leaf, Branch, width, size}
-use Rattle.mls_tree_model.specs.Resolution.{resolution, is_reached}
-use Rattle.mls_tree_model.specs.Way.{path_length}
-use Rattle.mls_tree_model.specs.Hashes.{parent_hash, hash_at}
+use Rattle.mls_tree_model.specs.Term.{Term, Leaf, Branch, width}
+use Rattle.mls_tree_model.specs.Resolution.{is_reached}
+use Rattle.mls_tree_model.specs.Hashes.{parent_hash}
 
 -- the new parent of the highest of some keys and a parent hash, where the filtered direct path takes it in (RFC 9420,
 -- 7.5)
@@ -46,8 +44,10 @@ unfoldable pub merge : ℕ → Term → ℕ → List (List ℕ) → List ℕ →
 merge b (Leaf v) i ks h x = Leaf (Some x)
 merge b (Branch c l r) i ks h x =
     if nat_lt i (b + width l)
-    then Branch (parent_beside (b + width l) r ks h) (merge b l i (keys_beside (b + width l) r ks) (hash_beside (b + width l) r ks h) x) r
-    else Branch (parent_beside b l ks h) l (merge (b + width l) r i (keys_beside b l ks) (hash_beside b l ks h) x)
+    then Branch (parent_beside (b + width l) r ks h)
+    (merge b l i (keys_beside (b + width l) r ks) (hash_beside (b + width l) r ks h) x) r
+    else Branch (parent_beside b l ks h) l
+    (merge (b + width l) r i (keys_beside b l ks) (hash_beside b l ks h) x)
 
 -- the parent hash that a merged path hands down to its leaf, from h on (RFC 9420, 7.9)
 unfoldable pub path_hash : ℕ → Term → ℕ → List (List ℕ) → List ℕ → List ℕ
@@ -65,16 +65,3 @@ merge_path t i x keys = merge 0 t i (reverse keys) [] x
 -- the parent hash that the leaf of a merged path must have: empty where the filtered direct path is (RFC 9420, 7.9)
 unfoldable pub path_parent_hash : Term → ℕ → List (List ℕ) → List ℕ
 path_parent_hash t i keys = path_hash 0 t i (reverse keys) []
-
--- a tree whose resolution is one node, with this parent hash
-pub record HasHead (b : ℕ) (t : Term) (h : List ℕ) : Type 0 where
-  pub node : ℕ
-  pub is_all : resolution b t ≡ node ∷ []
-  pub is_hash : hash_at b t node ≡ Some h
-  pub low : 2 * b ≤ node
-  pub high : node < 2 * b + size t
-
--- a path has a key for each of its parents, and the new leaf has the path's parent hash
-pub record IsPath (b : ℕ) (t : Term) (i : ℕ) (ks : List (List ℕ)) (h : List ℕ) (x : LeafNode) : Type 0 where
-  pub keys : length ks ≡ path_length b t i
-  pub hash : source_hash x.source ≡ Some (path_hash b t i ks h)

@@ -1,4 +1,4 @@
--- What the nodes of a tree hold.
+-- The parent hashes that the nodes of a tree hold.
 use Rattle.std.specs.Prelude.{ℕ, List, Option, Some, None}
 use Rattle.mls_leaf.specs.Parent.{Parent}
 use Rattle.mls_leaf.specs.declared.leaf.LeafNode.{LeafNode}

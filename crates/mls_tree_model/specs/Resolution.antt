@@ -1,4 +1,4 @@
--- The resolution of a tree.
+-- The resolution of a tree (RFC 9420, 4.1.1).
 use Rattle.std.specs.Prelude.{ℕ, ◌+◌, ◌*◌, Bool, true, false, not, List, [], ◌∷◌, ◌++◌, Some, None}
 use Rattle.mls_tree_model.specs.Term.{Term, Leaf, Branch, width, size}
 use Rattle.mls_tree_model.specs.Sets.{leaf_numbers}
@@ -17,6 +17,6 @@ abbrev pub is_empty : List ℕ → Bool
 is_empty [] = true
 is_empty (x ∷ xs) = false
 
--- whether a resolution isn't empty
+-- whether the resolution of a tree whose first leaf is b isn't empty
 abbrev pub is_reached : ℕ → Term → Bool
 is_reached b t = not (is_empty (resolution b t))

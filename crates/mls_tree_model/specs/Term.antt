@@ -5,7 +5,7 @@ use Rattle.std.specs.Prelude.{ℕ, zero, suc, ◌+◌, nat_lt, Bool, true, false
 use Rattle.mls_leaf.specs.Parent.{Parent}
 use Rattle.mls_leaf.specs.declared.leaf.LeafNode.{LeafNode}
 
--- a binary tree, whose leaves and parents may be blank (RFC 9420, 7.1)
+-- a ratchet tree: a binary tree, whose leaves and parents may be blank (RFC 9420, 4.1 and 7.1)
 pub data Term : Type 0 where
   Leaf : Option LeafNode → Term
   Branch : Option Parent → Term → Term → Term
@@ -25,7 +25,7 @@ unfoldable pub height : Term → ℕ
 height (Leaf v) = 0
 height (Branch c l r) = suc (height l)
 
--- whether all its leaves are at one depth
+-- whether all its leaves are at this depth
 unfoldable pub is_perfect : ℕ → Term → Bool
 is_perfect zero (Leaf v) = true
 is_perfect (suc h) (Leaf v) = false

@@ -1,4 +1,4 @@
--- The way from the root to a leaf, and the filtered direct path.
+-- The way from the root to a leaf, and the filtered direct path (RFC 9420, 4.1.2).
 use Rattle.std.specs.Prelude.{ℕ, ◌+◌, ◌*◌, nat_lt, nat_le, ◌&&◌, if◌then◌else◌, Bool, List, [], ◌∷◌, map, filter, reverse, length, Option}
 use Rattle.mls_leaf.specs.Parent.{Parent}
 use Rattle.mls_tree_model.specs.Term.{Term, Leaf, Branch, width, size}
@@ -24,7 +24,8 @@ way b (Branch c l r) i =
     if nat_lt i (b + width l) then step_at c (2 * b + size l) (b + width l) r ∷ way b l i
     else step_at c (2 * b + size l) b l ∷ way (b + width l) r i
 
--- whether the filtered direct path takes a parent in: the resolution of its other side isn't empty
+-- whether the filtered direct path takes a parent in, which is then a filtered parent: the resolution of its other side
+-- isn't empty (RFC 9420, 4.1.2)
 abbrev pub is_filtered : Step → Bool
 is_filtered s = is_reached s.first s.other
 
@@ -32,7 +33,7 @@ is_filtered s = is_reached s.first s.other
 abbrev pub is_beside : Step → ℕ → Bool
 is_beside s j = nat_le s.first j && nat_lt j (s.first + width s.other)
 
--- the parents over leaf i that the filtered direct path takes in, the highest first
+-- the parents over leaf i that the filtered direct path takes in, the highest first (RFC 9420, 4.1.2)
 unfoldable pub filtered_way : ℕ → Term → ℕ → List Step
 filtered_way b t i = filter is_filtered (way b t i)
 

@@ -1,12 +1,13 @@
 -- What is seen of the nodes of a tree while they are read past, one after the other.
 use Rattle.std.specs.Prelude.{◌≡◌, ◌≢◌, ℕ, ◌+◌, ◌-◌, ◌^◌, ◌≤◌, nat_lt, ◌==◌, true, false, not, ◌&&◌, if◌then◌else◌, List, [], ◌∷◌, length, min, Option, Some, None, Result, Ok, Err}
-use Rattle.mls_leaf.specs.Faults.{Spells, whole}
+use Rattle.mls_leaf.specs.Faults.{Spells}
 use Rattle.mls_leaf.specs.Limits.{input_limit}
 use Rattle.mls_leaf.specs.Node.{node}
 use Rattle.mls_leaf.specs.declared.node.Node.{Node}
 use Rattle.mls_leaf.specs.declared.node.Node.TheVariants.{Leaf as in_leaf, Parent as in_parent}
 use Rattle.mls_wire.specs.Combine.{optional}
 use Rattle.mls_wire.specs.Reading.{◌>>=◌}
+use Rattle.mls_wire.specs.Whole.{whole}
 use Rattle.mls_types.specs.GroupInfo.{ratchet_tree}
 use Rattle.mls_treemath.specs.Limits.{max_height}
 use Rattle.mls_treemath.specs.Paths.{nodes_in}

@@ -64,7 +64,7 @@ fn read_group_info<'a>(reader: &mut Reader<'a>) -> Result<GroupInfoView<'a>, Lea
 
 impl<'a> GroupInfoView<'a> {
     /// The group info that all of the bytes spell, with the answers of `decode`. It takes no memory.
-    #[tactic(auto, unfolding(mls_leaf::specs::Faults::whole))]
+    #[tactic(auto, unfolding(mls_wire::specs::Whole::whole))]
     pub fn read(bytes: &'a [u8]) -> Result<GroupInfoView<'a>, LeafError>
         ensures { LendsWhole group_info input_limit ShowsGroupInfo bytes.now result }
     {

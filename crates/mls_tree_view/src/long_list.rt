@@ -130,7 +130,7 @@ fn pass_all(nodes: &Part<'_, RatchetTree>) -> Passed
 }
 
 /// The nodes that all of the bytes of an input spell.
-#[tactic(auto, unfolding(mls_leaf::specs::Faults::whole))]
+#[tactic(auto, unfolding(mls_wire::specs::Whole::whole))]
 fn nodes_in(bytes: &[u8]) -> Option<Part<'_, RatchetTree>>
     ensures { FindsPlaces bytes.now result }
 {

@@ -8,9 +8,8 @@ use Rattle.mls_tree_model.specs.Term.{Term, width}
 use Rattle.mls_tree_model.specs.Arrays.{parent_in, node_at}
 use Rattle.mls_tree.specs.Tree.{Tree, term}
 use Rattle.mls_treekem.specs.declared.places.Place.{Place}
-use Rattle.mls_treekem_model.specs.Follow.{key_above, keys_on_way}
 use Rattle.mls_treekem_model.specs.Join.{is_due, is_complete, has_due_on, has_due}
-use Rattle.mls_treekem_model.specs.Keys.{PrivateKeys, all_keys}
+use Rattle.mls_treekem_model.specs.Keys.{PrivateKeys, all_keys, key_above, keys_on_way}
 use Rattle.mls_treekem.specs.Place.{place, places_from, step_of}
 use Rattle.mls_treekem.proofs.Place.{length-places, places_left, places_right, way_found}
 

@@ -5,8 +5,8 @@ use Rattle.std.specs.Option.{option_copied}
 use Rattle.mls_tree_model.specs.Term.{Term}
 use Rattle.mls_tree_model.specs.Way.{Step, way}
 use Rattle.mls_treekem.specs.declared.places.Place.{Place}
-use Rattle.mls_treekem_model.specs.Keys.{Keys, PrivateKeys, all_keys}
-use Rattle.mls_treekem_model.specs.Follow.{key_above, leaf_key_after, follow_edit}
+use Rattle.mls_treekem_model.specs.Keys.{Keys, PrivateKeys, all_keys, key_above}
+use Rattle.mls_treekem_model.specs.Follow.{leaf_key_after, follow_edit}
 use Rattle.mls_treekem_model.specs.Height.{follow_above, HasFollowed}
 use Rattle.mls_treekem.specs.Place.{step_of, IsWay}
 use Rattle.mls_treekem.proofs.Levels.{key_own}

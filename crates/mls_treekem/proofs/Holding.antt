@@ -13,9 +13,8 @@ use Rattle.mls_tree_model.proofs.ShapeLaws.{width-perfect}
 use Rattle.mls_tree.specs.Tree.{Tree, term}
 use Rattle.mls_tree.proofs.Perfect.{perfect}
 use Rattle.mls_treekem.specs.declared.places.Place.{Place}
-use Rattle.mls_treekem_model.specs.Follow.{key_above, keys_on_way}
 use Rattle.mls_treekem_model.specs.Holding.{holds_at, holds_own, holds_along, holds_exact}
-use Rattle.mls_treekem_model.specs.Keys.{PrivateKeys, all_keys}
+use Rattle.mls_treekem_model.specs.Keys.{PrivateKeys, all_keys, key_above, keys_on_way}
 use Rattle.mls_treekem_model.proofs.HeightLaws.{own_above, way_height}
 use Rattle.mls_treekem.specs.Holding.{last_on_way, is_own, holds_on}
 use Rattle.mls_treekem.specs.Place.{place, places_from, step_of}

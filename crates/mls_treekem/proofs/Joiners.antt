@@ -9,8 +9,8 @@ use Rattle.mls_tree_model.specs.Places.{resolution_at}
 use Rattle.mls_tree_model.specs.Resolution.{is_empty}
 use Rattle.mls_tree_model.specs.Way.{way, is_filtered, is_beside}
 use Rattle.mls_treekem_model.specs.Make.{one_if, filtered_count}
-use Rattle.mls_treekem_model.specs.Join.{secret_among}
 use Rattle.mls_treekem_model.proofs.SecretLaws.{secret_is_among}
+use Rattle.mls_treekem_model.specs.GivenSecrets.{secret_among}
 use Rattle.mls_treekem.specs.Place.{step_of, ArePlaced, IsWay}
 use Rattle.mls_treekem.specs.Secrets.{IsSentOf}
 use Rattle.mls_treekem.specs.declared.places.Place.{Place}

@@ -6,8 +6,7 @@ use Rattle.mls_suite.specs.Crypto.{Crypto}
 use Rattle.mls_suite.specs.declared.KeyPair.{KeyPair}
 use Rattle.mls_tree_model.specs.Way.{is_filtered, filtered_way, filtered_path, Step, way}
 use Rattle.mls_treekem_model.specs.Chain.{chain, path_secrets, node_key}
-use Rattle.mls_treekem_model.specs.Keys.{Keys, PrivateKeys}
-use Rattle.mls_treekem_model.specs.Follow.{key_above, keys_on_way}
+use Rattle.mls_treekem_model.specs.Keys.{Keys, PrivateKeys, key_above, keys_on_way}
 use Rattle.mls_treekem_model.specs.Make.{one_if, filtered_count, secret_above, key_if, made_keys, HasMade}
 use Rattle.mls_treekem.specs.Secrets.{ArePairsOf}
 use Rattle.mls_treekem.specs.KeysAtHeights.{level_of, with_key_at, with_keys_at, HasKeysAt}

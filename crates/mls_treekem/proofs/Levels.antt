@@ -7,8 +7,7 @@ use Rattle.mls_tree_model.specs.Way.{way}
 use Rattle.mls_tree_model.proofs.Equations.{way_leaf, way_left, way_right}
 use Rattle.mls_tree_model.proofs.ShapeLaws.{size-width, width-perfect}
 use Rattle.mls_tree_model.proofs.PathLaws.{reverse-cons}
-use Rattle.mls_treekem_model.specs.Keys.{Keys, PrivateKeys, all_keys}
-use Rattle.mls_treekem_model.specs.Follow.{key_above, keys_on_way}
+use Rattle.mls_treekem_model.specs.Keys.{Keys, PrivateKeys, all_keys, key_above, keys_on_way}
 use Rattle.mls_treekem_model.specs.Height.{pairs_from, as_pairs, ArePairs}
 use Rattle.mls_treekem_model.specs.Pairs.{Pair, pair_of, pairs}
 use Rattle.mls_treekem_model.proofs.OnePassLaws.{no_key_above}

@@ -24,11 +24,9 @@ use Rattle.mls_treekem.specs.Climbing.{with_own}
 use Rattle.mls_treekem.specs.Faults.{number_of}
 use Rattle.mls_treekem.specs.declared.error.TreeKemError.{TreeKemError}
 use Rattle.mls_treekem_model.specs.Chain.{next_secret, node_key, node_public}
-use Rattle.mls_treekem_model.specs.Follow.{key_above, keys_on_way}
-use Rattle.mls_treekem_model.specs.Keys.{Keys, key_for, key_in, PrivateKeys, all_keys}
+use Rattle.mls_treekem_model.specs.Keys.{Keys, key_for, key_in, PrivateKeys, all_keys, key_above, keys_on_way, keys_on}
 use Rattle.mls_treekem_model.specs.Make.{climb_past_node, climb_past_blank, Climb}
 use Rattle.mls_treekem_model.specs.Open.{nodes_below, unseal_secret, secret_of, open_first, first_ciphertexts, open_at_ancestor, climb_past_parent, climb_open, opened_path, secret_in}
-use Rattle.mls_treekem_model.specs.Height.{keys_on}
 use Rattle.mls_treekem.specs.Opening.{key_of, IsKeyOf, AreKeysUpTo, OpensAlong}
 use Rattle.mls_treekem.specs.Place.{subtree_at, step_of, IsPlaced, ArePlaced, IsWay}
 use Rattle.mls_treekem_model.specs.Seal.{targets}

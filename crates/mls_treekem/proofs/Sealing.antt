@@ -22,13 +22,14 @@ use Rattle.mls_treekem.specs.Faults.{number_of, IsMemoryOrKey}
 use Rattle.mls_treekem.specs.Secrets.{AreOfChain, public_keys}
 use Rattle.mls_treekem.specs.Sealing.{sealed_along}
 use Rattle.mls_treekem_model.specs.Make.{one_if, filtered_count}
-use Rattle.mls_treekem_model.specs.Seal.{targets, seal_count, ciphertext_of, seal_secret, seal_to, cons_both, seal_all, with_ciphertexts, path_past, node_with, seal_path_with, sealed_path, sealed_path_with}
+use Rattle.mls_treekem_model.specs.Seal.{targets, seal_count, ciphertext_of, seal_secret, seal_to, cons_both, seal_all, with_ciphertexts, path_past, sealed_path}
 use Rattle.mls_treekem_model.specs.Seeds.{seal_seed, seal_count_of}
 use Rattle.mls_treekem.specs.Place.{subtree_at, step_of, IsPlaced, ArePlaced, IsWay}
 use Rattle.mls_treekem.specs.declared.places.Place.{Place}
 use Rattle.mls_treekem.specs.declared.secrets.PathSecrets.{PathSecrets}
 use Rattle.mls_treekem_model.proofs.SeedLaws.{seed_low}
 use Rattle.mls_treekem_model.proofs.SecretLaws.{sealed_of_chain}
+use Rattle.mls_treekem_model.specs.GivenSecrets.{node_with, seal_path_with, sealed_path_with}
 
 -- ---- seals by the low bits of their number
 

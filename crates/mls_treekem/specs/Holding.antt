@@ -2,12 +2,11 @@
 use Rattle.std.specs.Prelude.{◌≡◌, ℕ, zero, suc, ◌+◌, ◌^◌, nat_lt, if◌then◌else◌, Bool, true, false, List, [], ◌∷◌, Option, Some}
 use Rattle.mls_leaf.specs.declared.leaf.LeafNode.{LeafNode}
 use Rattle.mls_suite.specs.Crypto.{Crypto}
-use Rattle.mls_tree_model.specs.Term.{leaf_of}
+use Rattle.mls_tree_model.specs.Term.{Term, leaf_of}
 use Rattle.mls_tree_model.specs.Way.{Step}
 use Rattle.mls_tree.specs.Tree.{Tree, term}
-use Rattle.mls_treekem_model.specs.Follow.{keys_on_way}
-use Rattle.mls_treekem_model.specs.Holding.{holds_own, holds_along}
-use Rattle.mls_treekem_model.specs.Keys.{PrivateKeys, all_keys}
+use Rattle.mls_treekem_model.specs.Holding.{holds_own, holds_along, holds_exact}
+use Rattle.mls_treekem_model.specs.Keys.{PrivateKeys, all_keys, keys_on_way}
 use Rattle.mls_treekem.specs.declared.hold.HeldKeys.{HeldKeys}
 use Rattle.mls_treekem.specs.declared.hold.HeldKeys.TheVariants.{Exact, Other}
 use Rattle.mls_treekem.specs.Place.{places_from, steps_at}
@@ -16,6 +15,10 @@ use Rattle.mls_treekem.specs.Place.{places_from, steps_at}
 abbrev pub are_exact : HeldKeys → Bool
 are_exact Exact = true
 are_exact Other = false
+
+-- it tells whether keys are exactly those that are due in a tree (RFC 9420, 7.5)
+abbrev pub TellsExact : Crypto → Term → PrivateKeys → HeldKeys → Type 0
+TellsExact c t keys held = are_exact held ≡ holds_exact c t keys
 
 -- the leaf that the way to leaf j ends at, in a perfect tree of height h whose first leaf is b
 unfoldable pub last_on_way : ℕ → ℕ → ℕ → ℕ

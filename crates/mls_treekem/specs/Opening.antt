@@ -11,11 +11,9 @@ use Rattle.mls_treekem.specs.declared.error.TreeKemError.{TreeKemError}
 use Rattle.mls_treekem.specs.declared.places.Place.{Place}
 use Rattle.mls_treekem.specs.Climbing.{with_own}
 use Rattle.mls_treekem.specs.Faults.{number_of, AnswersValue}
-use Rattle.mls_treekem_model.specs.Follow.{keys_on_way}
-use Rattle.mls_treekem_model.specs.Keys.{Keys, key_in, PrivateKeys, all_keys}
+use Rattle.mls_treekem_model.specs.Keys.{Keys, key_in, PrivateKeys, all_keys, keys_on_way, keys_on}
 use Rattle.mls_treekem_model.specs.Make.{Climb, climb_to}
 use Rattle.mls_treekem_model.specs.Open.{open_first, open_at_ancestor, climb_open, opened_path, climb_past_parent}
-use Rattle.mls_treekem_model.specs.Height.{keys_on}
 use Rattle.mls_treekem.specs.Place.{step_of}
 use Rattle.mls_tree.specs.Tree.{Tree, term}
 

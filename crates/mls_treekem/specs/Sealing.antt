@@ -11,7 +11,7 @@ use Rattle.mls_suite.specs.Crypto.{Crypto}
 use Rattle.mls_tree_model.specs.Sets.{leaf_numbers, less}
 use Rattle.mls_tree_model.specs.Term.{Term}
 use Rattle.mls_tree_model.specs.Way.{Step, way, path_length}
-use Rattle.mls_treekem_model.specs.Seal.{seal_all, node_with, seal_path_with, seal_to, seal_count, sealed_path, sealed_path_with}
+use Rattle.mls_treekem_model.specs.Seal.{seal_all, seal_to, seal_count, sealed_path}
 use Rattle.mls_treekem_model.specs.Seeds.{seal_seed, seal_count_of}
 use Rattle.mls_treekem_model.specs.Make.{filtered_count}
 use Rattle.mls_treekem.specs.declared.error.TreeKemError.{TreeKemError}
@@ -22,6 +22,7 @@ use Rattle.mls_treekem.specs.Place.{subtree_at, steps_at}
 use Rattle.mls_treekem.specs.Secrets.{public_keys, AreOfChain}
 use Rattle.mls_treekem.specs.declared.seal.Sealer.{Sealer}
 use Rattle.mls_tree.specs.Tree.{Tree, term}
+use Rattle.mls_treekem_model.specs.GivenSecrets.{node_with, seal_path_with, sealed_path_with}
 
 -- a path secret sealed at a place of a tree to some nodes, without the leaves just added; seals are numbered from i on
 abbrev pub sealed_beside : Crypto → List ℕ → List ℕ → List ℕ → Term → Place → List ℕ → List ℕ → ℕ → Result (List HpkeCiphertext) ℕ

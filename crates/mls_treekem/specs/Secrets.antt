@@ -6,9 +6,10 @@ use Rattle.mls_suite.specs.Crypto.{Crypto}
 use Rattle.mls_suite.specs.declared.KeyPair.{KeyPair}
 use Rattle.mls_tree_model.specs.Term.{Term, leaf_at}
 use Rattle.mls_tree_model.specs.Way.{way, path_length}
-use Rattle.mls_treekem_model.specs.Join.{secret_for, secret_among}
+use Rattle.mls_treekem_model.specs.Join.{secret_for}
 use Rattle.mls_treekem_model.specs.Laws.{AreTwo}
 use Rattle.mls_treekem_model.specs.Chain.{chain, path_secrets, node_key, node_public}
+use Rattle.mls_treekem_model.specs.GivenSecrets.{secret_among}
 use Rattle.mls_treekem.specs.declared.secrets.PathSecrets.{PathSecrets}
 use Rattle.mls_treekem.specs.declared.places.Place.{Place}
 use Rattle.mls_treekem.specs.Place.{steps_at}

@@ -2,8 +2,7 @@
 
 ghost use Rattle.std.specs.Prelude.{◌≡◌, ◌≤◌, if◌then◌else◌, None, length, unwrap_or, OnOk, OnErr};
 ghost use Rattle.std.specs.Option.{option_copied};
-ghost use Rattle.mls_treekem_model.specs.Follow.{key_above};
-ghost use Rattle.mls_treekem_model.specs.Keys.{all_keys};
+ghost use Rattle.mls_treekem_model.specs.Keys.{all_keys, key_above};
 ghost use Rattle.mls_treekem.specs.Following.{AddsKept, FollowsEdit};
 
 use crate::PrivatePath;

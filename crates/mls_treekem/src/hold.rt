@@ -4,8 +4,8 @@ ghost use Rattle.std.specs.Prelude.{◌≡◌, ◌+◌, ◌^◌, ◌≤◌, IfOk
 ghost use Rattle.std.specs.Option.{option_copied};
 ghost use Rattle.std.specs.Str.{bytes_eq};
 ghost use Rattle.mls_tree.specs.Tree.{term};
-ghost use Rattle.mls_treekem_model.specs.Holding.{holds_at, holds_exact};
-ghost use Rattle.mls_treekem.specs.Holding.{are_exact, is_own, holds_below};
+ghost use Rattle.mls_treekem_model.specs.Holding.{holds_at};
+ghost use Rattle.mls_treekem.specs.Holding.{TellsExact, is_own, holds_below};
 
 use crate::PrivatePath;
 use crate::places::{parent_in, side_of};
@@ -105,7 +105,7 @@ impl PrivatePath {
     /// over it that isn't blank and doesn't list it, the one whose public key is the parent's; and no other (RFC 9420,
     /// 7.1 and 7.5). What is over a leaf outside the tree is what is over its last leaf.
     pub fn holds_keys<S: Suite>(&self, tree: &PublicTree) -> Result<HeldKeys, OutOfMemory>
-        ensures { IfOk result (λ held. are_exact held ≡ holds_exact S.crypto (term tree.now) self.now) }
+        ensures { IfOk result (TellsExact S.crypto (term tree.now) self.now) }
     {
         let height = tree.leaf_count().trailing_zeros();
         if self.above().len() > height as usize {

@@ -1,9 +1,8 @@
 //! Which keys a member has.
 
 ghost use Rattle.std.specs.Prelude.{◌≡◌, ◌+◌, ◌^◌, ◌≤◌, None, slice_index_or, IfOk, OnOk};
-ghost use Rattle.mls_treekem_model.specs.Follow.{key_above};
 ghost use Rattle.mls_treekem_model.specs.Height.{ArePairs};
-ghost use Rattle.mls_treekem_model.specs.Keys.{all_keys};
+ghost use Rattle.mls_treekem_model.specs.Keys.{all_keys, key_above};
 ghost use Rattle.mls_treekem_model.specs.Pairs.{pair_of};
 ghost use Rattle.mls_treekem.specs.Following.{AddsPairs, AddsPairsFrom};
 

@@ -22,4 +22,4 @@ pub use hold::HeldKeys;
 pub use private_path::PrivatePath;
 pub use seal::{seal_count_of, seal_path};
 pub use secrets::PathSecrets;
-pub use seeds::{init_seed, leaf_seed, path_seed, seal_seed, sign_seed};
+pub use seeds::{init_seed, leaf_seed, path_seed, seal_seed, seal_seed_of, sign_seed};

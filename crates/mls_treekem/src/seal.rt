@@ -10,8 +10,8 @@ ghost use Rattle.mls_treekem.specs.Place.{IsPlaced, ArePlaced, key_beside};
 ghost use Rattle.mls_treekem_model.specs.Seeds.{seal_count_of};
 
 use crate::places::{Place, parents_over};
-use crate::{PathSecrets, TreeKemError, seal_seed};
-use mls_kdf::Secret;
+use crate::{PathSecrets, TreeKemError, seal_seed_of};
+use mls_kdf::{HmacKey, Secret};
 use mls_leaf::{Bytes, Items, Node};
 use mls_suite::{Suite, encrypt_with_label};
 use mls_tree::PublicTree;
@@ -90,15 +90,15 @@ fn seal_to<S: Suite>(
 
 /// What a commit's path is sealed with, at each of its nodes.
 #[derive(Clone, Copy)]
-struct Sealer<'a> {
+struct Sealer<'a, 'b> {
     tree: &'a PublicTree,
     added: &'a [u32],
     path: &'a PathSecrets,
     context: &'a [u8],
-    seed: &'a Secret,
+    seed: &'a HmacKey<'b>,
 }
 
-impl Sealer<'_> {
+impl Sealer<'_, '_> {
     /// A path secret sealed to the nodes that aren't leaves just added, of those that reach all members beside a place;
     /// seals are numbered from `first` on. `BadKey` (36) where a key is missing or isn't fit.
     fn seal_all<S: Suite>(
@@ -120,7 +120,7 @@ impl Sealer<'_> {
                 continue;
             }
             let key = place.key_beside(self.tree, *node);
-            let rnd = seal_seed(self.seed, number);
+            let rnd = seal_seed_of(self.seed, number);
             let ciphertext = seal_to::<S>(alloc, self.context, secret, key, &rnd)?;
             sealed.push(ciphertext)?;
             number = number.wrapping_add(1);
@@ -211,12 +211,13 @@ pub fn seal_path<S: Suite>(
     ensures refused { IfErr result IsMemoryOrKey }
 {
     let places = parents_over(alloc, tree, committer)?;
+    let key = HmacKey::new(seed);
     let sealer = Sealer {
         tree,
         added,
         path,
         context,
-        seed,
+        seed: &key,
     };
     sealer.seal_places::<S>(alloc, &places)
 }

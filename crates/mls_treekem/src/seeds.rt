@@ -4,7 +4,7 @@
 ghost use Rattle.std.specs.Prelude.{◌≡◌};
 ghost use Rattle.mls_treekem_model.specs.Seeds.{init_seed, leaf_seed, sign_seed, path_seed, seal_seed};
 
-use mls_kdf::{Secret, Seed, derive_secret, expand_with_label};
+use mls_kdf::{HmacKey, Secret, Seed, derive_secret};
 
 /// The input key material of a KeyPackage's init key.
 #[tactic(auto, unfolding(mls_treekem_model::specs::Seeds::init_seed))]
@@ -40,11 +40,19 @@ pub fn path_seed(seed: &Seed) -> Secret
 
 /// The randomness of seal number `i` of a commit, from 0 on: the seals of its path come first, node by node, the lowest
 /// first, and then those of its Welcome in the order of adds.
-#[tactic(auto, unfolding(mls_treekem_model::specs::Seeds::seal_seed, mls_wire::specs::Reading::uint))]
 pub fn seal_seed(seed: &Seed, i: u32) -> Secret
     ensures { result ≡ seal_seed seed.now i }
 {
+    seal_seed_of(&HmacKey::new(seed), i)
+}
+
+/// The randomness of seal number `i` of a commit, from its seed as a key, which is hashed once for all of its seals.
+#[tactic(auto, unfolding(mls_treekem_model::specs::Seeds::seal_seed, mls_wire::specs::Reading::uint))]
+pub fn seal_seed_of(seed: &HmacKey, i: u32) -> Secret
+    ensures { result ≡ seal_seed seed.now i }
+{
     let mut out = [0; 32];
-    expand_with_label(seed, "seed seal", &i.to_be_bytes(), &mut out).unwrap();
+    seed.expand_with_label("seed seal", &i.to_be_bytes(), &mut out)
+        .unwrap();
     out
 }

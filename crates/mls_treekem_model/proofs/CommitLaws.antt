@@ -11,9 +11,9 @@ use Rattle.mls_tree_model.proofs.PlaceLaws.{leaf_at-put, leaf_at-merge}
 use Rattle.mls_treekem_model.specs.Keys.{Exact, leaf_only}
 use Rattle.mls_treekem_model.specs.Make.{Climb, climb_make, path_keys}
 use Rattle.mls_treekem_model.specs.Seal.{IsPathOf}
-use Rattle.mls_treekem_model.specs.Open.{climb_open, shared_keys}
+use Rattle.mls_treekem_model.specs.Open.{climb_open}
 use Rattle.mls_treekem_model.specs.Join.{take_keys, secret_for}
-use Rattle.mls_treekem_model.specs.Laws.{CommitAgree, JoinAgree}
+use Rattle.mls_treekem_model.specs.Laws.{CommitAgree, JoinAgree, shared_keys}
 use Rattle.mls_treekem_model.proofs.MakeLaws.{make_exact}
 use Rattle.mls_treekem_model.proofs.MergedLaws.{path_has_keys}
 use Rattle.mls_treekem_model.proofs.SealLaws.{made_path}

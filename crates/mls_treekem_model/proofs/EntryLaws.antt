@@ -16,13 +16,12 @@ use Rattle.mls_tree_model.specs.Laws.{IsIn}
 use Rattle.mls_tree_model.proofs.ShapeLaws.{size-width}
 use Rattle.mls_tree_model.proofs.EntryLaws.{one_held_of_rest}
 use Rattle.mls_suite.specs.Crypto.{Crypto}
-use Rattle.mls_treekem_model.specs.Keys.{Keys, HoldsKey, Fits, IsOwnKey, AreKeysAlong, AreKeysOnWay, key_for, key_in}
+use Rattle.mls_treekem_model.specs.Keys.{Keys, HoldsKey, HoldsDueKey, IsOwnKey, AreKeysAlong, AreKeysOnWay, key_for, key_in}
 use Rattle.mls_treekem_model.specs.Lists.{below_here}
-use Rattle.mls_treekem_model.specs.Open.{held_count}
 use Rattle.mls_treekem_model.proofs.WayLaws.{along_none, along_left, along_right}
 use Rattle.mls_treekem_model.proofs.FollowLaws.{along_taken}
 use Rattle.mls_treekem_model.proofs.ListLaws.{below_bound}
-use Rattle.mls_treekem_model.specs.Laws.{EntryKey, KeyWhereHeld, OneEntry}
+use Rattle.mls_treekem_model.specs.Laws.{EntryKey, KeyWhereHeld, OneEntry, held_count}
 
 -- ---- the key at a node
 
@@ -87,7 +86,7 @@ at_leaf c F b v j ks h = h
 
 -- ---- where a key is had
 
-fits_held : (c : Crypto) (j : ℕ) (p : Option Parent) (o : Option (List ℕ)) → Fits c j p o → is_some o ≡ not (may_list p j)
+fits_held : (c : Crypto) (j : ℕ) (p : Option Parent) (o : Option (List ℕ)) → HoldsDueKey c j p o → is_some o ≡ not (may_list p j)
 fits_held c j None None h = refl
 fits_held c j None (Some k) h = absurd h
 fits_held c j (Some p) o h = by_list (has p.unmerged_leaves j) o h
@@ -104,24 +103,24 @@ some_if false o h = refl
 
 pub key_where_held : KeyWhereHeld
 unfolding holds_key_of width
-key_where_held c b (Leaf v) j [] d hj h = absurd (own_none c v (at_leaf c (Fits c j) b v j [] h))
+key_where_held c b (Leaf v) j [] d hj h = absurd (own_none c v (at_leaf c (HoldsDueKey c j) b v j [] h))
 key_where_held c b (Leaf v) j (o ∷ ks) d hj h =
     let same : j ≡ b = omega arith in
-    ap is_some (key_at_leaf b v j o ks d) ∙ some_if (d == 2 * j) o (own_some c v o ks (at_leaf c (Fits c j) b v j (o ∷ ks) h)) ∙ ap (λ n. d == 2 * n) same
-key_where_held c b (Branch p l r) j [] d hj h = absurd (along_none c (Fits c j) b p l r j h)
+    ap is_some (key_at_leaf b v j o ks d) ∙ some_if (d == 2 * j) o (own_some c v o ks (at_leaf c (HoldsDueKey c j) b v j (o ∷ ks) h)) ∙ ap (λ n. d == 2 * n) same
+key_where_held c b (Branch p l r) j [] d hj h = absurd (along_none c (HoldsDueKey c j) b p l r j h)
 key_where_held c b (Branch p l r) j (o ∷ ks) d hj h = elim (cases_eq d (2 * b + size l)) [
   | inl e ↦
       ap is_some (key_here b p l r j o ks d e)
-      ∙ fits_held c j p o (elim (cases_lt j (b + width l)) [ inl lj ↦ (along_left c (Fits c j) b p l r j o ks lj h).0 | inr rj ↦ (along_right c (Fits c j) b p l r j o ks rj h).0 ])
+      ∙ fits_held c j p o (elim (cases_lt j (b + width l)) [ inl lj ↦ (along_left c (HoldsDueKey c j) b p l r j o ks lj h).0 | inr rj ↦ (along_right c (HoldsDueKey c j) b p l r j o ks rj h).0 ])
       ∙ sym (cond-true _ _ _ (eq-eqb d (2 * b + size l) e))
   | inr n ↦ elim (cases_lt j (b + width l)) [
     | inl lj ↦
         ap is_some (key_left b p l r j o ks d n lj)
-        ∙ key_where_held c b l j ks d (record { low = hj.low; high = lj }) (along_left c (Fits c j) b p l r j o ks lj h).1
+        ∙ key_where_held c b l j ks d (record { low = hj.low; high = lj }) (along_left c (HoldsDueKey c j) b p l r j o ks lj h).1
         ∙ sym (cond-false _ _ _ (ne_eqb d (2 * b + size l) n) ∙ cond-true _ _ _ (lt-ltb j (b + width l) lj))
     | inr rj ↦
         ap is_some (key_right b p l r j o ks d n rj)
-        ∙ key_where_held c (b + width l) r j ks d (record { low = rj; high = omega arith }) (along_right c (Fits c j) b p l r j o ks rj h).1
+        ∙ key_where_held c (b + width l) r j ks d (record { low = rj; high = omega arith }) (along_right c (HoldsDueKey c j) b p l r j o ks rj h).1
         ∙ sym (cond-false _ _ _ (ne_eqb d (2 * b + size l) n) ∙ cond-false _ _ _ (le-ltb j (b + width l) rj))
   ]
 ]
@@ -140,7 +139,7 @@ held_counted f p h (d ∷ ds) =
 pub one_entry : OneEntry
 one_entry c added b t j ks good hj h old =
     held_counted (key_in b t j ks) (holds_key_of b t j) (λ d. key_where_held c b t j ks d hj h) (less (leaf_numbers added) (resolution b t))
-    ∙ one_held_of_rest below_here below_bound b t j added good.below good.rising hj.low hj.high (along_taken c (Fits c j) (way b t j) (leaf_at b t j) ks h) old
+    ∙ one_held_of_rest below_here below_bound b t j added good.below good.rising hj.low hj.high (along_taken c (HoldsDueKey c j) (way b t j) (leaf_at b t j) ks h) old
 
 -- ---- the key of a node that is held
 
@@ -150,7 +149,7 @@ own_entry c (Some x) j (Some q) (o ∷ ks) k h e = absurd h
 own_entry c (Some x) j (Some q) [] k h e = let qk : q ≡ k = cc in ap Some (sym h) ∙ ap (λ z. Some (c.public z)) qk
 own_entry c None j o ks k h e = absurd h
 
-parent_entry : (c : Crypto) (j : ℕ) (p : Option Parent) (k : List ℕ) → Fits c j p (Some k) → parent_own_key p ≡ Some (c.public k)
+parent_entry : (c : Crypto) (j : ℕ) (p : Option Parent) (k : List ℕ) → HoldsDueKey c j p (Some k) → parent_own_key p ≡ Some (c.public k)
 parent_entry c j None k h = absurd h
 parent_entry c j (Some p) k h = by_list (has p.unmerged_leaves j) h
   where
@@ -160,19 +159,19 @@ parent_entry c j (Some p) k h = by_list (has p.unmerged_leaves j) h
 
 pub entry_key : EntryKey
 unfolding key_at width
-entry_key c b (Leaf v) j [] d k hj h e = absurd (own_none c v (at_leaf c (Fits c j) b v j [] h))
+entry_key c b (Leaf v) j [] d k hj h e = absurd (own_none c v (at_leaf c (HoldsDueKey c j) b v j [] h))
 entry_key c b (Leaf v) j (o ∷ ks) d k hj h e = elim (cases_eq d (2 * j)) [
   | inl q ↦
       at_node_leaf b v None own_key d (omega arith)
-      ∙ own_entry c v j o ks k (at_leaf c (Fits c j) b v j (o ∷ ks) h) (sym (key_at_leaf b v j o ks d ∙ cond-true _ _ _ (eq-eqb d (2 * j) q)) ∙ e)
+      ∙ own_entry c v j o ks k (at_leaf c (HoldsDueKey c j) b v j (o ∷ ks) h) (sym (key_at_leaf b v j o ks d ∙ cond-true _ _ _ (eq-eqb d (2 * j) q)) ∙ e)
   | inr n ↦ absurd (none-some k (sym (key_at_leaf b v j o ks d ∙ cond-false _ _ _ (ne_eqb d (2 * j) n)) ∙ e))
 ]
-entry_key c b (Branch p l r) j [] d k hj h e = absurd (along_none c (Fits c j) b p l r j h)
+entry_key c b (Branch p l r) j [] d k hj h e = absurd (along_none c (HoldsDueKey c j) b p l r j h)
 entry_key c b (Branch p l r) j (o ∷ ks) d k hj h e = elim (cases_eq d (2 * b + size l)) [
   | inl q ↦
       at_node_here None own_key b p l r d q
-      ∙ parent_entry c j p k (subst (λ (z : Option (List ℕ)). Fits c j p z) (sym (key_here b p l r j o ks d q) ∙ e)
-      (elim (cases_lt j (b + width l)) [ inl lj ↦ (along_left c (Fits c j) b p l r j o ks lj h).0 | inr rj ↦ (along_right c (Fits c j) b p l r j o ks rj h).0 ]))
+      ∙ parent_entry c j p k (subst (λ (z : Option (List ℕ)). HoldsDueKey c j p z) (sym (key_here b p l r j o ks d q) ∙ e)
+      (elim (cases_lt j (b + width l)) [ inl lj ↦ (along_left c (HoldsDueKey c j) b p l r j o ks lj h).0 | inr rj ↦ (along_right c (HoldsDueKey c j) b p l r j o ks rj h).0 ]))
   | inr n ↦
       let s = size-width l in
       elim (cases_lt j (b + width l)) [
@@ -180,7 +179,7 @@ entry_key c b (Branch p l r) j (o ∷ ks) d k hj h e = elim (cases_eq d (2 * b +
             let inside : IsIn b l j = record { low = hj.low; high = lj } in
             let f = sym (key_left b p l r j o ks d n lj) ∙ e in
             elim (cases_lt d (2 * b + size l)) [
-              | inl ld ↦ at_node_left None own_key b p l r d ld ∙ entry_key c b l j ks d k inside (along_left c (Fits c j) b p l r j o ks lj h).1 f
+              | inl ld ↦ at_node_left None own_key b p l r d ld ∙ entry_key c b l j ks d k inside (along_left c (HoldsDueKey c j) b p l r j o ks lj h).1 f
               | inr rd ↦ absurd (none-some k (sym (key_outside b l j ks d inside (inr rd)) ∙ f))
             ]
         | inr rj ↦
@@ -188,7 +187,7 @@ entry_key c b (Branch p l r) j (o ∷ ks) d k hj h e = elim (cases_eq d (2 * b +
             let f = sym (key_right b p l r j o ks d n rj) ∙ e in
             elim (cases_lt d (2 * b + size l)) [
               | inl ld ↦ absurd (none-some k (sym (key_outside (b + width l) r j ks d inside (inl (omega arith))) ∙ f))
-              | inr rd ↦ at_node_right None own_key b p l r d (omega arith) ∙ entry_key c (b + width l) r j ks d k inside (along_right c (Fits c j) b p l r j o ks rj h).1 f
+              | inr rd ↦ at_node_right None own_key b p l r d (omega arith) ∙ entry_key c (b + width l) r j ks d k inside (along_right c (HoldsDueKey c j) b p l r j o ks rj h).1 f
             ]
       ]
 ]

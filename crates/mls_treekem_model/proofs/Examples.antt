@@ -7,9 +7,9 @@ use Rattle.mls_tree_model.specs.Way.{way, filtered_way, filtered_path}
 use Rattle.mls_treekem_model.specs.Chain.{chain}
 use Rattle.mls_treekem_model.specs.Make.{filtered_count, made_keys}
 use Rattle.mls_treekem_model.specs.Seal.{targets}
-use Rattle.mls_treekem_model.specs.Open.{shared_keys}
 use Rattle.mls_treekem_model.specs.Pairs.{pairs}
 use Rattle.mls_treekem_model.specs.Examples.{SecretOfOne, SecretOfFour, PathOfFour, TargetsOfFour, KeysOfMaker, KeysBeside, KeysAcross, TargetsBesideAdded}
+use Rattle.mls_treekem_model.specs.Laws.{shared_keys}
 
 pub secret_of_one : SecretOfOne
 unfolding chain filtered_count way

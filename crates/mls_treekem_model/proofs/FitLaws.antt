@@ -19,8 +19,9 @@ use Rattle.mls_tree_model.proofs.ShapeLaws.{size-width}
 use Rattle.mls_tree_model.proofs.ParentLaws.{parents_parts}
 use Rattle.mls_tree_model.proofs.NamedLaws.{lists_bound}
 use Rattle.mls_tree_model.proofs.ResolutionLaws.{resolution_range}
-use Rattle.mls_treekem_model.specs.Seal.{targets, is_fit, all_fit, targets_fit}
+use Rattle.mls_treekem_model.specs.Seal.{targets}
 use Rattle.mls_treekem_model.specs.Whole.{FitTargets}
+use Rattle.mls_treekem_model.specs.Laws.{has_fit_key, all_fit, targets_fit}
 
 module _ (c : Crypto) where
   abbrev AllOk : Term → Type 0
@@ -33,25 +34,25 @@ module _ (c : Crypto) where
       let b = and_parts (list_all c.key_ok (parent_key p)) _ (sym (list_all-append c.key_ok (parent_key p) (encryption_keys r)) ∙ a.1) in
       (a.0, b.0, b.1)
 
-  leaf_fit : (b : ℕ) (v : Option LeafNode) (d : ℕ) → AllOk (Leaf v) → is_some v ≡ true → d ≡ 2 * b → is_fit c (key_at b (Leaf v) d) ≡ true
+  leaf_fit : (b : ℕ) (v : Option LeafNode) (d : ℕ) → AllOk (Leaf v) → is_some v ≡ true → d ≡ 2 * b → has_fit_key c (key_at b (Leaf v) d) ≡ true
   unfolding gather key_at
   leaf_fit b None d h e is = absurd (true≢false (sym e))
-  leaf_fit b (Some x) d h e is = ap (is_fit c) (at_node_leaf b (Some x) None own_key d is) ∙ (and_parts (c.key_ok x.encryption_key) _ h).0
+  leaf_fit b (Some x) d h e is = ap (has_fit_key c) (at_node_leaf b (Some x) None own_key d is) ∙ (and_parts (c.key_ok x.encryption_key) _ h).0
 
   -- a leaf below one of two sides
   side_fit : (b : ℕ) (p : Option Parent) (l r : Term) (u : ℕ) →
-      (u < b + width l → is_listed b l u ≡ true → is_fit c (key_at b l (2 * u)) ≡ true) →
-      (b + width l ≤ u → is_listed (b + width l) r u ≡ true → is_fit c (key_at (b + width l) r (2 * u)) ≡ true) →
-      (if nat_lt u (b + width l) then is_listed b l u else is_listed (b + width l) r u) ≡ true → is_fit c (key_at b (Branch p l r) (2 * u)) ≡ true
+      (u < b + width l → is_listed b l u ≡ true → has_fit_key c (key_at b l (2 * u)) ≡ true) →
+      (b + width l ≤ u → is_listed (b + width l) r u ≡ true → has_fit_key c (key_at (b + width l) r (2 * u)) ≡ true) →
+      (if nat_lt u (b + width l) then is_listed b l u else is_listed (b + width l) r u) ≡ true → has_fit_key c (key_at b (Branch p l r) (2 * u)) ≡ true
   unfolding key_at
   side_fit b p l r u left right e =
       let s = size-width l in
       elim (cases_lt u (b + width l)) [
-        | inl lt ↦ ap (is_fit c) (at_node_left None own_key b p l r (2 * u) (omega arith)) ∙ left lt (sym (cond-true _ _ _ (lt-ltb u (b + width l) lt)) ∙ e)
-        | inr ge ↦ ap (is_fit c) (at_node_right None own_key b p l r (2 * u) (omega arith)) ∙ right ge (sym (cond-false _ _ _ (le-ltb u (b + width l) ge)) ∙ e)
+        | inl lt ↦ ap (has_fit_key c) (at_node_left None own_key b p l r (2 * u) (omega arith)) ∙ left lt (sym (cond-true _ _ _ (lt-ltb u (b + width l) lt)) ∙ e)
+        | inr ge ↦ ap (has_fit_key c) (at_node_right None own_key b p l r (2 * u) (omega arith)) ∙ right ge (sym (cond-false _ _ _ (le-ltb u (b + width l) ge)) ∙ e)
       ]
 
-  listed_fit : (b : ℕ) (t : Term) (u : ℕ) → AllOk t → b ≤ u → u < b + width t → is_listed b t u ≡ true → is_fit c (key_at b t (2 * u)) ≡ true
+  listed_fit : (b : ℕ) (t : Term) (u : ℕ) → AllOk t → b ≤ u → u < b + width t → is_listed b t u ≡ true → has_fit_key c (key_at b t (2 * u)) ≡ true
   unfolding is_listed width
   listed_fit b (Leaf v) u h low high e = leaf_fit b v (2 * u) h e (omega arith)
   listed_fit b (Branch p l r) u h low high e =
@@ -59,7 +60,7 @@ module _ (c : Crypto) where
       side_fit b p l r u (λ lt. listed_fit b l u f.0 low lt) (λ ge. listed_fit (b + width l) r u f.2 ge (omega arith)) (and_parts (may_list p u) _ e).1
 
   -- the nodes of a resolution
-  reached_fit : (b : ℕ) (t : Term) (d : ℕ) → all_parents lists_here b t ≡ true → AllOk t → has (resolution b t) d ≡ true → is_fit c (key_at b t d) ≡ true
+  reached_fit : (b : ℕ) (t : Term) (d : ℕ) → all_parents lists_here b t ≡ true → AllOk t → has (resolution b t) d ≡ true → has_fit_key c (key_at b t d) ≡ true
   unfolding resolution has key_at lists_here may_be_listed
   reached_fit b (Leaf None) d k h e = absurd (true≢false (sym e))
   reached_fit b (Leaf (Some x)) d k h e =
@@ -68,13 +69,13 @@ module _ (c : Crypto) where
   reached_fit b (Branch (Some p) l r) d k h e =
       let f = ok_parts (Some p) l r h in
       elim (or_cases (2 * b + size l == d) _ e) [
-        | inl q ↦ ap (is_fit c) (at_node_here None own_key b (Some p) l r d (sym (eqb-true (2 * b + size l) d q))) ∙ (and_parts (c.key_ok p.encryption_key) _ f.1).0
+        | inl q ↦ ap (has_fit_key c) (at_node_here None own_key b (Some p) l r d (sym (eqb-true (2 * b + size l) d q))) ∙ (and_parts (c.key_ok p.encryption_key) _ f.1).0
         | inr q ↦
             let g = of_leaf_numbers p.unmerged_leaves d q in
             let m = and_parts (nat_le b g.0) _ (all_at (may_be_listed b l r) p.unmerged_leaves g.0 (parents_parts lists_here b (Some p) l r k).0 g.2) in
             let n = and_parts (nat_lt g.0 (b + (width l + width r))) _ m.1 in
             let high : g.0 < b + (width l + width r) = ltb-true g.0 (b + (width l + width r)) n.0 in
-            ap (λ z. is_fit c (key_at b (Branch (Some p) l r) z)) g.1
+            ap (λ z. has_fit_key c (key_at b (Branch (Some p) l r) z)) g.1
             ∙ side_fit b (Some p) l r g.0 (λ lt. listed_fit b l g.0 f.0 (leb-true b g.0 m.0) lt) (λ ge. listed_fit (b + width l) r g.0 f.2 ge (omega arith)) n.1
       ]
   reached_fit b (Branch None l r) d k h e =
@@ -82,16 +83,16 @@ module _ (c : Crypto) where
       let m = parents_parts lists_here b None l r k in
       let f = ok_parts None l r h in
       elim (or_cases (has (resolution b l) d) _ (sym (has-append (resolution b l) (resolution (b + width l) r) d) ∙ e)) [
-        | inl q ↦ ap (is_fit c) (at_node_left None own_key b None l r d (resolution_range lists_here lists_bound b l d m.1 q).1) ∙ reached_fit b l d m.1 f.0 q
+        | inl q ↦ ap (has_fit_key c) (at_node_left None own_key b None l r d (resolution_range lists_here lists_bound b l d m.1 q).1) ∙ reached_fit b l d m.1 f.0 q
         | inr q ↦
             let low : 2 * (b + width l) ≤ d = (resolution_range lists_here lists_bound (b + width l) r d m.2 q).0 in
-            ap (is_fit c) (at_node_right None own_key b None l r d (omega arith)) ∙ reached_fit (b + width l) r d m.2 f.2 q
+            ap (has_fit_key c) (at_node_right None own_key b None l r d (omega arith)) ∙ reached_fit (b + width l) r d m.2 f.2 q
       ]
 
-  all_fit_is : (b : ℕ) (t : Term) (ds : List ℕ) → all_fit c b t ds ≡ list_all (λ d. is_fit c (key_at b t d)) ds
+  all_fit_is : (b : ℕ) (t : Term) (ds : List ℕ) → all_fit c b t ds ≡ list_all (λ d. has_fit_key c (key_at b t d)) ds
   unfolding all_fit
   all_fit_is b t [] = refl
-  all_fit_is b t (d ∷ ds) = ap (λ z. is_fit c (key_at b t d) && z) (all_fit_is b t ds)
+  all_fit_is b t (d ∷ ds) = ap (λ z. has_fit_key c (key_at b t d) && z) (all_fit_is b t ds)
 
   module _ (added : List ℕ) where
     step_fit : (s : Step) → all_parents lists_here s.first s.other ≡ true → AllOk s.other → all_fit c s.first s.other (targets added s) ≡ true
@@ -99,7 +100,7 @@ module _ (c : Crypto) where
     step_fit s k h =
         let ds : List ℕ = resolution s.first s.other in
         all_fit_is s.first s.other (targets added s)
-        ∙ all_from (λ d. is_fit c (key_at s.first s.other d)) (targets added s) (λ d e.
+        ∙ all_from (λ d. has_fit_key c (key_at s.first s.other d)) (targets added s) (λ d e.
         reached_fit s.first s.other d k h (and_parts (has ds d) _ (sym (has-filter (λ x. not (has (leaf_numbers added) x)) ds d) ∙ e)).0)
 
     fit_more : (s : Step) (ss : List Step) → all_fit c s.first s.other (targets added s) ≡ true → targets_fit c added ss ≡ true → targets_fit c added (s ∷ ss) ≡ true

@@ -14,10 +14,11 @@ use Rattle.mls_tree_model.proofs.SetLaws.{has-with}
 use Rattle.mls_tree_model.proofs.ShapeLaws.{width-put, width-enter}
 use Rattle.mls_tree_model.proofs.MemberLaws.{leaf_taken}
 use Rattle.mls_suite.specs.Crypto.{Crypto}
-use Rattle.mls_treekem_model.specs.Keys.{Keys, HoldsKey, Fits, IsOwnKey, AreKeysAlong, Exact, leaf_only}
-use Rattle.mls_treekem_model.specs.Follow.{TameAt, TameAlong, Tame, follow, follow_trim}
+use Rattle.mls_treekem_model.specs.Keys.{Keys, HoldsKey, HoldsDueKey, IsOwnKey, AreKeysAlong, Exact, leaf_only}
+use Rattle.mls_treekem_model.specs.Follow.{follow, follow_trim}
 use Rattle.mls_treekem_model.proofs.WayLaws.{along_none, along_left, along_right, left_along, right_along, tame_left, tame_right}
 use Rattle.mls_treekem_model.specs.Laws.{FollowGrow, FollowOwn, FollowTame, TameRefl, TameTrans}
+use Rattle.mls_treekem_model.specs.Tame.{TameAt, TameAlong, Tame}
 
 pub tame_at_same : (j : ℕ) (p : Option Parent) → TameAt j p p
 tame_at_same j None = tt
@@ -90,12 +91,12 @@ holds_same c true p q (Some k) e h = absurd h
 holds_same c false p q None e h = absurd h
 holds_same c false p q (Some k) e h = h ∙ e
 
-pub fits_follow : (c : Crypto) (j : ℕ) (p q : Option Parent) (o : Option (List ℕ)) → TameAt j p q → Fits c j p o → Fits c j q (if is_some q then o else None)
+pub fits_follow : (c : Crypto) (j : ℕ) (p q : Option Parent) (o : Option (List ℕ)) → TameAt j p q → HoldsDueKey c j p o → HoldsDueKey c j q (if is_some q then o else None)
 fits_follow c j p None o t h = tt
 fits_follow c j None (Some q) o t h = absurd t
 fits_follow c j (Some p) (Some q) o t h = subst (λ (d : Bool). HoldsKey c d q o) t.1 (holds_same c (has p.unmerged_leaves j) p q o t.0 h)
 
-along_follow : (c : Crypto) (j : ℕ) (ss ts : List Step) (x : Option LeafNode) (ks : Keys) → TameAlong j ss ts → AreKeysAlong c (Fits c j) ss x ks → AreKeysAlong c (Fits c j) ts x (follow ts ks)
+along_follow : (c : Crypto) (j : ℕ) (ss ts : List Step) (x : Option LeafNode) (ks : Keys) → TameAlong j ss ts → AreKeysAlong c (HoldsDueKey c j) ss x ks → AreKeysAlong c (HoldsDueKey c j) ts x (follow ts ks)
 unfolding TameAlong AreKeysAlong follow
 along_follow c j [] [] x ks t h = h
 along_follow c j [] (s ∷ ts) x ks t h = absurd t
@@ -105,7 +106,7 @@ along_follow c j (s ∷ ss) (s' ∷ ts) x (o ∷ ks) t h = (fits_follow c j s.pa
 
 pub follow_tame : FollowTame
 follow_tame c j b t t' ks h tame =
-    subst (λ (x : Option LeafNode). AreKeysAlong c (Fits c j) (way b t' j) x (follow (way b t' j) ks)) tame.leaf (along_follow c j (way b t j) (way b t' j) (leaf_at b t j) ks tame.along h)
+    subst (λ (x : Option LeafNode). AreKeysAlong c (HoldsDueKey c j) (way b t' j) x (follow (way b t' j) ks)) tame.leaf (along_follow c j (way b t j) (way b t' j) (leaf_at b t j) ks tame.along h)
 
 own_taken : (c : Crypto) (x : Option LeafNode) (ks : Keys) → IsOwnKey c x ks → IsSome x
 own_taken c (Some x) ks h = refl
@@ -120,22 +121,22 @@ along_taken c F (s ∷ ss) x (o ∷ ks) h = along_taken c F ss x ks h.1
 
 pub follow_grow : FollowGrow
 unfolding grow
-follow_grow c t j ks inside exact = left_along c (Fits c j) 0 None t (blanks (height t)) j None ks inside.high tt exact
+follow_grow c t j ks inside exact = left_along c (HoldsDueKey c j) 0 None t (blanks (height t)) j None ks inside.high tt exact
 
 pub follow_trim_by : (c : Crypto) (b : ℕ) (t : Term) (j : ℕ) (ks : Keys) → IsIn b t j → Exact c b t j ks → Exact c b (trim t) j (follow_trim t ks) × IsIn b (trim t) j
 unfolding trim follow_trim
 follow_trim_by c b (Leaf v) j ks inside h = (h, inside)
-follow_trim_by c b (Branch p l r) j [] inside h = absurd (along_none c (Fits c j) b p l r j h)
+follow_trim_by c b (Branch p l r) j [] inside h = absurd (along_none c (HoldsDueKey c j) b p l r j h)
 follow_trim_by c b (Branch p l r) j (o ∷ ks) inside h = by_right (has_leaf r) refl (follow_trim_by c b l j ks)
   where
     by_right : (t : Bool) → has_leaf r ≡ t → (IsIn b l j → Exact c b l j ks → Exact c b (trim l) j (follow_trim l ks) × IsIn b (trim l) j) →
         Exact c b (if t then Branch p l r else trim l) j (if t then o ∷ ks else follow_trim l ks) × IsIn b (if t then Branch p l r else trim l) j
     by_right true e rec = (h, inside)
     by_right false e rec = elim (cases_lt j (b + width l)) [
-      | inl lj ↦ rec (record { low = inside.low; high = lj }) (along_left c (Fits c j) b p l r j o ks lj h).1
+      | inl lj ↦ rec (record { low = inside.low; high = lj }) (along_left c (HoldsDueKey c j) b p l r j o ks lj h).1
       | inr rj ↦
-          let k = (along_right c (Fits c j) b p l r j o ks rj h).1 in
-          let z = leaf_taken (b + width l) r j (along_taken c (Fits c j) (way (b + width l) r j) (leaf_at (b + width l) r j) ks k) in
+          let k = (along_right c (HoldsDueKey c j) b p l r j o ks rj h).1 in
+          let z = leaf_taken (b + width l) r j (along_taken c (HoldsDueKey c j) (way (b + width l) r j) (leaf_at (b + width l) r j) ks k) in
           absurd (true≢false (sym z ∙ e))
     ]
 
@@ -153,8 +154,8 @@ follow_own c b (Branch p l r) i x k h = elim (cases_lt i (b + width l)) [
   | inl li ↦
       let w = width-put b l i (Some x) in
       rw (put_left b p l r i (Some x) li, way_left b p l r i li, own_more)
-      (left_along c (Fits c i) b None (put b l i (Some x)) r i None (leaf_only (way b l i) k) (omega arith) tt (follow_own c b l i x k h))
+      (left_along c (HoldsDueKey c i) b None (put b l i (Some x)) r i None (leaf_only (way b l i) k) (omega arith) tt (follow_own c b l i x k h))
   | inr ri ↦
       rw (put_right b p l r i (Some x) ri, way_right b p l r i ri, own_more)
-      (right_along c (Fits c i) b None l (put (b + width l) r i (Some x)) i None (leaf_only (way (b + width l) r i) k) ri tt (follow_own c (b + width l) r i x k h))
+      (right_along c (HoldsDueKey c i) b None l (put (b + width l) r i (Some x)) i None (leaf_only (way (b + width l) r i) k) ri tt (follow_own c (b + width l) r i x k h))
 ]

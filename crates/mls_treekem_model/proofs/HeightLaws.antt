@@ -2,8 +2,8 @@
 use Rattle.std.proofs.Common.{◌≡◌, ℕ, suc, ◌≤◌, if◌then◌else◌, List, [], ◌∷◌, length, Option, Some, None, is_some, refl, ap, ap₂, ◌∙◌, arith, zero, ◌+◌, true, ◌++◌, reverse, sym, inl, inr, eq-eqb, ne_eqb}
 use Rattle.mls_tree_model.specs.Term.{Term, leaf_at, Leaf, Branch, width, is_perfect}
 use Rattle.mls_tree_model.specs.Way.{Step, way}
-use Rattle.mls_treekem_model.specs.Keys.{Keys, Fits, leaf_only}
-use Rattle.mls_treekem_model.specs.Follow.{follow, key_above, keys_on_way, follow_edit}
+use Rattle.mls_treekem_model.specs.Keys.{Keys, HoldsDueKey, leaf_only, key_above, keys_on_way}
+use Rattle.mls_treekem_model.specs.Follow.{follow, follow_edit}
 use Rattle.mls_treekem_model.proofs.OnePassLaws.{along_length}
 use Rattle.std.proofs.lemmas.Bool.{cond-true, cond-false, cases_lt, true≢false, and_parts}
 use Rattle.std.proofs.lemmas.List.{reverse-append}
@@ -73,7 +73,7 @@ whole (s ∷ ss) [] e = absurd (omega arith)
 whole (s ∷ ss) (o ∷ ks) e = ap₂ (λ z zs. z ∷ zs) (above_take (suc (length ss)) o ks (omega arith)) (lower ss o ks (omega arith) ∙ whole ss ks (omega arith))
 
 pub exact_is_on_way : ExactIsOnWay
-exact_is_on_way c b t j ks h = whole (way b t j) ks (along_length c (Fits c j) (way b t j) (leaf_at b t j) ks h)
+exact_is_on_way c b t j ks h = whole (way b t j) ks (along_length c (HoldsDueKey c j) (way b t j) (leaf_at b t j) ks h)
 
 pub leaf_is_on_way : LeafIsOnWay
 unfolding keys_on_way leaf_only key_above

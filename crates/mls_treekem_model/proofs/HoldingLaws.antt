@@ -9,10 +9,8 @@ use Rattle.mls_suite.specs.Crypto.{Crypto}
 use Rattle.mls_tree_model.specs.Sets.{has}
 use Rattle.mls_tree_model.specs.Term.{Term, leaf_at}
 use Rattle.mls_tree_model.specs.Way.{Step, way}
-use Rattle.mls_treekem_model.specs.Height.{keys_on}
 use Rattle.mls_treekem_model.specs.Holding.{holds_at, holds_own, holds_along, holds_exact, ExactIsHeld, HeldIsExact}
-use Rattle.mls_treekem_model.specs.Keys.{Keys, PrivateKeys, Fits, HoldsKey, IsOwnKey, AreKeysAlong}
-use Rattle.mls_treekem_model.specs.Members.{HasExact}
+use Rattle.mls_treekem_model.specs.Keys.{Keys, PrivateKeys, HoldsDueKey, HoldsKey, IsOwnKey, AreKeysAlong, keys_on, HasExact}
 
 -- a key is that of a public key just where the test says so
 same_key : (a b : List ℕ) → a ≡ b → bytes_eq a b ≡ true
@@ -26,7 +24,7 @@ held_here c j q (Some k) true is h = absurd h
 held_here c j q None false is h = absurd h
 held_here c j q (Some k) false is h = ap₂ (λ x y. not x && y) is (same_key (c.public k) q.encryption_key h)
 
-at_held : (c : Crypto) (j : ℕ) (q : Option Parent) (o : Option (List ℕ)) → Fits c j q o → holds_at c j q o ≡ true
+at_held : (c : Crypto) (j : ℕ) (q : Option Parent) (o : Option (List ℕ)) → HoldsDueKey c j q o → holds_at c j q o ≡ true
 at_held c j None None h = refl
 at_held c j None (Some k) h = absurd h
 at_held c j (Some q) o h = held_here c j q o (has q.unmerged_leaves j) refl h
@@ -37,7 +35,7 @@ fits_here c j q None false is h = absurd (true≢false (sym h ∙ is))
 fits_here c j q (Some k) true is h = absurd (true≢false (sym h ∙ ap (λ x. not x && bytes_eq (c.public k) q.encryption_key) is))
 fits_here c j q (Some k) false is h = (bytes_eq-Decides (c.public k) q.encryption_key).0 (and_parts (not (has q.unmerged_leaves j)) (bytes_eq (c.public k) q.encryption_key) h).1
 
-held_at : (c : Crypto) (j : ℕ) (q : Option Parent) (o : Option (List ℕ)) → holds_at c j q o ≡ true → Fits c j q o
+held_at : (c : Crypto) (j : ℕ) (q : Option Parent) (o : Option (List ℕ)) → holds_at c j q o ≡ true → HoldsDueKey c j q o
 held_at c j None None h = tt
 held_at c j None (Some k) h = absurd (true≢false (sym h))
 held_at c j (Some q) o h = fits_here c j q o (has q.unmerged_leaves j) refl h
@@ -60,13 +58,13 @@ held_own c (Some x) (Some k ∷ o ∷ ks) h = absurd (true≢false (sym h))
 
 -- ---- along a way
 
-along_held : (c : Crypto) (j : ℕ) (ss : List Step) (x : Option LeafNode) (ks : Keys) → AreKeysAlong c (Fits c j) ss x ks → holds_along c j ss x ks ≡ true
+along_held : (c : Crypto) (j : ℕ) (ss : List Step) (x : Option LeafNode) (ks : Keys) → AreKeysAlong c (HoldsDueKey c j) ss x ks → holds_along c j ss x ks ≡ true
 unfolding AreKeysAlong holds_along
 along_held c j [] x ks h = own_held c x ks h
 along_held c j (s ∷ ss) x [] h = absurd h
 along_held c j (s ∷ ss) x (o ∷ ks) h = ap₂ (λ y z. y && z) (at_held c j s.parent o h.0) (along_held c j ss x ks h.1)
 
-held_along : (c : Crypto) (j : ℕ) (ss : List Step) (x : Option LeafNode) (ks : Keys) → holds_along c j ss x ks ≡ true → AreKeysAlong c (Fits c j) ss x ks
+held_along : (c : Crypto) (j : ℕ) (ss : List Step) (x : Option LeafNode) (ks : Keys) → holds_along c j ss x ks ≡ true → AreKeysAlong c (HoldsDueKey c j) ss x ks
 unfolding AreKeysAlong holds_along
 held_along c j [] x ks h = held_own c x ks h
 held_along c j (s ∷ ss) x [] h = absurd (true≢false (sym h))

@@ -20,17 +20,16 @@ use Rattle.mls_tree_model.proofs.ShapeLaws.{width-enter}
 use Rattle.mls_tree_model.proofs.MergeLaws.{width-merge}
 use Rattle.mls_suite.specs.Crypto.{Crypto}
 use Rattle.mls_treekem_model.specs.Chain.{chain, node_key, node_public}
-use Rattle.mls_treekem_model.specs.Keys.{Keys, HoldsKey, Fits, AreKeysAlong, AreKeysOnWay, Exact, leaf_only}
-use Rattle.mls_treekem_model.specs.Follow.{TameAt, TameAlong}
+use Rattle.mls_treekem_model.specs.Keys.{Keys, HoldsKey, HoldsDueKey, AreKeysAlong, AreKeysOnWay, Exact, leaf_only}
 use Rattle.mls_treekem_model.specs.Make.{climb_past_node, climb_past_blank, Climb, one_if, filtered_count, secret_above, key_if, made_keys, climb_make, more_if, path_keys}
 use Rattle.mls_treekem_model.specs.Seal.{Choose}
-use Rattle.mls_treekem_model.specs.Open.{shared_keys}
 use Rattle.mls_treekem_model.specs.Join.{climb_past_present, require_present, climb_take, is_due, is_complete, take_keys, ListsAt, AllList, secret_for, take_answer}
 use Rattle.mls_treekem_model.proofs.HeightLaws.{leaf_is_on_way}
 use Rattle.mls_treekem_model.proofs.MeetLaws.{Meets, meets_from, along_from}
 use Rattle.mls_treekem_model.proofs.MakeLaws.{merged_way, way_merge}
 use Rattle.mls_treekem_model.proofs.OpenLaws.{beside_filtered}
-use Rattle.mls_treekem_model.specs.Laws.{EnteredLists, LeafExact, LeafHasDue, TakeInside}
+use Rattle.mls_treekem_model.specs.Laws.{EnteredLists, LeafExact, LeafHasDue, TakeInside, shared_keys}
+use Rattle.mls_treekem_model.specs.Tame.{TameAt, TameAlong}
 
 -- a key that is had is the parent's, which doesn't list the leaf
 abbrev pub Sound : Crypto → ℕ → Option Parent → Option (List ℕ) → Type 0
@@ -93,13 +92,13 @@ unfolding AreKeysAlong leaf_only
 own_sound c j [] x sk h = h
 own_sound c j (s ∷ ss) x sk h = (tt, own_sound c j ss x sk h)
 
-fits_from : (c : Crypto) (j : ℕ) (p : Option Parent) (o : Option (List ℕ)) → Sound c j p o → is_due j p o ≡ true → Fits c j p o
+fits_from : (c : Crypto) (j : ℕ) (p : Option Parent) (o : Option (List ℕ)) → Sound c j p o → is_due j p o ≡ true → HoldsDueKey c j p o
 fits_from c j None None h d = tt
 fits_from c j None (Some k) h d = absurd h
 fits_from c j (Some p) None h d = subst (λ (t : Bool). HoldsKey c t p None) (sym d ∙ or-false (has p.unmerged_leaves j)) tt
 fits_from c j (Some p) (Some k) h d = subst (λ (t : Bool). HoldsKey c t p (Some k)) (sym h.0) h.1
 
-exact_from : (c : Crypto) (j : ℕ) (ss : List Step) (x : Option LeafNode) (ks : Keys) → AreKeysAlong c (Sound c j) ss x ks → is_complete j ss ks ≡ true → AreKeysAlong c (Fits c j) ss x ks
+exact_from : (c : Crypto) (j : ℕ) (ss : List Step) (x : Option LeafNode) (ks : Keys) → AreKeysAlong c (Sound c j) ss x ks → is_complete j ss ks ≡ true → AreKeysAlong c (HoldsDueKey c j) ss x ks
 unfolding AreKeysAlong is_complete
 exact_from c j [] x ks h d = h
 exact_from c j (s ∷ ss) x [] h d = absurd h

@@ -12,7 +12,7 @@ use Rattle.mls_tree_model.proofs.ShapeLaws.{size_from_width}
 use Rattle.mls_tree_model.proofs.MergeLaws.{width-merge}
 use Rattle.mls_suite.specs.Crypto.{Crypto}
 use Rattle.mls_treekem_model.specs.Chain.{chain, path_secrets, node_key, node_public, chain_keys}
-use Rattle.mls_treekem_model.specs.Keys.{Fits, AreKeysAlong}
+use Rattle.mls_treekem_model.specs.Keys.{HoldsDueKey, AreKeysAlong}
 use Rattle.mls_treekem_model.specs.Make.{one_if, filtered_count, secret_above, key_if, made_keys, climb_make, climb_past, more_if, path_keys}
 use Rattle.mls_treekem_model.specs.Laws.{CountIsLength, KeysAreChain, KeysOfSecrets, MakeExact, MakingClimbs}
 
@@ -103,7 +103,7 @@ leaf_merge b (Branch p l r) i ks h x = elim (cases_lt i (b + width l)) [
       rw (merge_right b p l r i ks h x ri) (leaf_at_right b (parent_beside b l ks h) l (merge (b + width l) r i ks' h' x) i ri ∙ leaf_merge (b + width l) r i ks' h' x)
 ]
 
-along_make : (c : Crypto) (j : ℕ) (x : LeafNode) (start sk : List ℕ) → c.public sk ≡ x.encryption_key → (ss : List Step) (h : List ℕ) → AreKeysAlong c (Fits c j) (merged_way ss (path_keys c ss start) h) (Some x) (made_keys c ss start sk)
+along_make : (c : Crypto) (j : ℕ) (x : LeafNode) (start sk : List ℕ) → c.public sk ≡ x.encryption_key → (ss : List Step) (h : List ℕ) → AreKeysAlong c (HoldsDueKey c j) (merged_way ss (path_keys c ss start) h) (Some x) (made_keys c ss start sk)
 unfolding merged_way AreKeysAlong path_keys made_keys
 along_make c j x start sk e [] h = e
 along_make c j x start sk e (s ∷ ss) h = by_test (is_filtered s) (along_make c j x start sk e ss)
@@ -111,8 +111,8 @@ along_make c j x start sk e (s ∷ ss) h = by_test (is_filtered s) (along_make c
     keys : List (List ℕ)
     keys = path_keys c ss start
 
-    by_test : (t : Bool) → ((g : List ℕ) → AreKeysAlong c (Fits c j) (merged_way ss keys g) (Some x) (made_keys c ss start sk)) →
-        AreKeysAlong c (Fits c j)
+    by_test : (t : Bool) → ((g : List ℕ) → AreKeysAlong c (HoldsDueKey c j) (merged_way ss keys g) (Some x) (made_keys c ss start sk)) →
+        AreKeysAlong c (HoldsDueKey c j)
         (step_at (new_parent t (more_if t (node_public c (secret_above ss start)) keys) h) s.node s.first s.other
         ∷ merged_way ss (keys_below t (more_if t (node_public c (secret_above ss start)) keys)) (hash_below (new_parent t (more_if t (node_public c (secret_above ss start)) keys) h) s.first s.other h))
         (Some x) (key_if t (node_key c (secret_above ss start)) ∷ made_keys c ss start sk)

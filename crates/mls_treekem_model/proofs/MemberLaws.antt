@@ -8,21 +8,21 @@ use Rattle.mls_tree_model.specs.Term.{Term, leaf_at}
 use Rattle.mls_tree_model.specs.Way.{Step, way}
 use Rattle.mls_tree_model.specs.Merge.{merge, merge_path, keys_beside, hash_beside}
 use Rattle.mls_treekem_model.specs.Make.{climb_to, made_keys}
-use Rattle.mls_treekem_model.specs.Follow.{key_above, keys_on_way, follow_edit}
-use Rattle.mls_treekem_model.specs.Height.{keys_on, as_pairs}
+use Rattle.mls_treekem_model.specs.Follow.{follow_edit}
+use Rattle.mls_treekem_model.specs.Height.{as_pairs}
 use Rattle.mls_treekem_model.specs.Join.{is_complete}
-use Rattle.mls_treekem_model.specs.Keys.{Keys, Fits, Exact, PrivateKeys, all_keys, leaf_only, key_in}
-use Rattle.mls_treekem_model.specs.Members.{HasExact, KeysMerged, with_nodes, ExactReceived, MadeReceived, ShownAreDue, ExactAlone, ExactFollowed, ExactMade, ExactOpened, ExactTaken, ExactUpdated, ExactWhole}
+use Rattle.mls_treekem_model.specs.Keys.{Keys, HoldsDueKey, Exact, PrivateKeys, all_keys, leaf_only, key_in, key_above, keys_on_way, keys_on, HasExact}
+use Rattle.mls_treekem_model.specs.Members.{KeysMerged, with_nodes, ExactReceived, MadeReceived, ShownAreDue, ExactAlone, ExactFollowed, ExactMade, ExactOpened, ExactTaken, ExactUpdated, ExactWhole}
 use Rattle.mls_treekem_model.specs.Open.{opened_secret, opened_path}
 use Rattle.mls_treekem_model.specs.Pairs.{pairs, find_key, IsInOrder}
 use Rattle.mls_treekem_model.proofs.EntryLaws.{key_where_held, entry_key}
 use Rattle.mls_treekem_model.proofs.PairLaws.{pairs_in_order, pairs_found}
-use Rattle.mls_treekem_model.specs.Whole.{keys_of_path}
 use Rattle.mls_treekem_model.proofs.HeightLaws.{exact_is_on_way, above_take, above_pass, length-end, length-keys_on_way, same_length, way_height}
 use Rattle.mls_treekem_model.proofs.JoinLaws.{take_exact, leaf_exact, take_inside, own_merge}
 use Rattle.mls_treekem_model.proofs.MakeLaws.{merged_way, way_merge}
 use Rattle.mls_treekem_model.proofs.OnePassLaws.{along_length, no_key_above, follow_edit_exact, own_edit_exact}
 use Rattle.mls_treekem_model.proofs.WholeLaws.{made_exact, opened_exact, opened_merged, secret_merged, opened_agrees, opened_is_sent}
+use Rattle.mls_treekem_model.specs.Chain.{keys_of_path}
 
 -- ---- keys read on a way
 
@@ -58,7 +58,7 @@ way_long t i x keys = ap length (way_merge 0 t i (reverse keys) [] x) ∙ length
 
 pub exact_whole : ExactWhole
 exact_whole c t p e =
-    let long : length (all_keys p) ≡ suc (length (way 0 t p.leaf)) = along_length c (Fits c p.leaf) (way 0 t p.leaf) (leaf_at 0 t p.leaf) (all_keys p) e in
+    let long : length (all_keys p) ≡ suc (length (way 0 t p.leaf)) = along_length c (HoldsDueKey c p.leaf) (way 0 t p.leaf) (leaf_at 0 t p.leaf) (all_keys p) e in
     record {
       keys = subst (λ (ks : Keys). Exact c 0 t p.leaf ks) (sym (exact_is_on_way c 0 t p.leaf (all_keys p) e)) e;
       low = omega (arith, length-end p.above (Some p.own));

@@ -11,10 +11,11 @@ use Rattle.mls_tree_model.specs.Laws.{IsIn}
 use Rattle.mls_tree_model.proofs.ShapeLaws.{width-put}
 use Rattle.mls_tree_model.proofs.MemberLaws.{leaf_taken}
 use Rattle.mls_suite.specs.Crypto.{Crypto}
-use Rattle.mls_treekem_model.specs.Keys.{Keys, Fits, IsOwnKey, AreKeysAlong}
-use Rattle.mls_treekem_model.specs.Follow.{TameAt, TameAlong, key_above, follow_edit, parent_above, TameEdits}
+use Rattle.mls_treekem_model.specs.Keys.{Keys, HoldsDueKey, IsOwnKey, AreKeysAlong, key_above}
+use Rattle.mls_treekem_model.specs.Follow.{follow_edit}
 use Rattle.mls_treekem_model.proofs.FollowLaws.{tame_at_same, tame_at_trans, fits_follow}
 use Rattle.mls_treekem_model.specs.Laws.{FollowEdit, FollowOwnEdit, FollowsGrow, FollowsTame, FollowsTrans, FollowsTrim}
+use Rattle.mls_treekem_model.specs.Tame.{TameAt, TameAlong, parent_above, TameEdits}
 
 -- ---- keys by their height
 
@@ -41,16 +42,16 @@ unfolding parent_above
 no_parent_above n [] h = refl
 no_parent_above n (s ∷ ss) h = let e = ne_eqb (length ss) n (λ e. omega arith) in rw e (no_parent_above n ss (omega arith))
 
-fits_above : (c : Crypto) (j : ℕ) (ss : List Step) (x : Option LeafNode) (ks : Keys) → AreKeysAlong c (Fits c j) ss x ks → (n : ℕ) → Fits c j (parent_above n ss) (key_above (suc n) ks)
+fits_above : (c : Crypto) (j : ℕ) (ss : List Step) (x : Option LeafNode) (ks : Keys) → AreKeysAlong c (HoldsDueKey c j) ss x ks → (n : ℕ) → HoldsDueKey c j (parent_above n ss) (key_above (suc n) ks)
 unfolding AreKeysAlong parent_above key_above
 fits_above c j [] x ks h n = let e = no_key_above (suc n) ks (omega (arith, own_length c x ks h)) in rw e tt
 fits_above c j (s ∷ ss) x [] h n = absurd h
 fits_above c j (s ∷ ss) x (o ∷ ks) h n = by_test (length ss == n) refl (fits_above c j ss x ks h.1 n)
   where
     size : length ks ≡ suc (length ss)
-    size = along_length c (Fits c j) ss x ks h.1
+    size = along_length c (HoldsDueKey c j) ss x ks h.1
 
-    by_test : (t : Bool) → (length ss == n) ≡ t → Fits c j (parent_above n ss) (key_above (suc n) ks) → Fits c j (parent_above n (s ∷ ss)) (key_above (suc n) (o ∷ ks))
+    by_test : (t : Bool) → (length ss == n) ≡ t → HoldsDueKey c j (parent_above n ss) (key_above (suc n) ks) → HoldsDueKey c j (parent_above n (s ∷ ss)) (key_above (suc n) (o ∷ ks))
     by_test true e rec =
         let is : length ss ≡ n = eqb-true (length ss) n e in
         let f = eq-eqb (length ks) (suc n) (omega (arith, size)) in
@@ -79,8 +80,8 @@ leaf_above c F (s ∷ ss) x (o ∷ ks) h =
 
 -- ---- the pass
 
-module _ (c : Crypto) (j : ℕ) (x : Option LeafNode) (ks : Keys) (before : ℕ → Option Parent) (own : IsOwnKey c x (key_above 0 ks ∷ [])) (fits : (n : ℕ) → Fits c j (before n) (key_above (suc n) ks)) where
-  pass_along : (ts : List Step) → ((n : ℕ) → n < length ts → TameAt j (before n) (parent_above n ts)) → AreKeysAlong c (Fits c j) ts x (follow_edit None ts ks)
+module _ (c : Crypto) (j : ℕ) (x : Option LeafNode) (ks : Keys) (before : ℕ → Option Parent) (own : IsOwnKey c x (key_above 0 ks ∷ [])) (fits : (n : ℕ) → HoldsDueKey c j (before n) (key_above (suc n) ks)) where
+  pass_along : (ts : List Step) → ((n : ℕ) → n < length ts → TameAt j (before n) (parent_above n ts)) → AreKeysAlong c (HoldsDueKey c j) ts x (follow_edit None ts ks)
   unfolding AreKeysAlong follow_edit parent_above
   pass_along [] tame = own
   pass_along (s ∷ ts) tame =
@@ -92,8 +93,8 @@ module _ (c : Crypto) (j : ℕ) (x : Option LeafNode) (ks : Keys) (before : ℕ 
 
 pub follow_edit_exact : FollowEdit
 follow_edit_exact c t t' j ks h f =
-    subst (λ (x : Option LeafNode). AreKeysAlong c (Fits c j) (way 0 t' j) x (follow_edit None (way 0 t' j) ks)) f.leaf
-    (pass_along c j (leaf_at 0 t j) ks (λ n. parent_above n (way 0 t j)) (leaf_above c (Fits c j) (way 0 t j) (leaf_at 0 t j) ks h) (fits_above c j (way 0 t j) (leaf_at 0 t j) ks h)
+    subst (λ (x : Option LeafNode). AreKeysAlong c (HoldsDueKey c j) (way 0 t' j) x (follow_edit None (way 0 t' j) ks)) f.leaf
+    (pass_along c j (leaf_at 0 t j) ks (λ n. parent_above n (way 0 t j)) (leaf_above c (HoldsDueKey c j) (way 0 t j) (leaf_at 0 t j) ks h) (fits_above c j (way 0 t j) (leaf_at 0 t j) ks h)
     (way 0 t' j) (λ n _. f.above n))
 
 -- ---- which edits it follows
@@ -212,7 +213,7 @@ blank_from j None (Some q) e h = absurd h
 blank_from j (Some p) (Some q) e h = cc
 
 blank_along : (c : Crypto) (j : ℕ) (x : LeafNode) (k : List ℕ) (ks : Keys) → c.public k ≡ x.encryption_key → (ts : List Step) → ((n : ℕ) → n < length ts → parent_above n ts ≡ None) →
-    AreKeysAlong c (Fits c j) ts (Some x) (follow_edit (Some k) ts ks)
+    AreKeysAlong c (HoldsDueKey c j) ts (Some x) (follow_edit (Some k) ts ks)
 unfolding AreKeysAlong follow_edit parent_above
 blank_along c j x k ks h [] blank = h
 blank_along c j x k ks h (s ∷ ts) blank =
@@ -223,7 +224,7 @@ blank_along c j x k ks h (s ∷ ts) blank =
 pub own_edit_exact : FollowOwnEdit
 own_edit_exact c t t' j x k ks h f =
     let leaf : Some x ≡ leaf_at 0 t' j = sym (own_leaf 0 t j (Some x)) ∙ f.leaf in
-    subst (λ (y : Option LeafNode). AreKeysAlong c (Fits c j) (way 0 t' j) y (follow_edit (Some k) (way 0 t' j) ks)) leaf
+    subst (λ (y : Option LeafNode). AreKeysAlong c (HoldsDueKey c j) (way 0 t' j) y (follow_edit (Some k) (way 0 t' j) ks)) leaf
     (blank_along c j x k ks h (way 0 t' j)
     (λ n _. blank_from j (parent_above n (way 0 (put 0 t j (Some x)) j)) (parent_above n (way 0 t' j)) (blank_above 0 t j (Some x) n) (f.above n)))
 

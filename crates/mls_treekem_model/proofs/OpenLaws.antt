@@ -21,11 +21,11 @@ use Rattle.mls_tree_model.proofs.MemberLaws.{leaf_taken}
 use Rattle.mls_tree_model.proofs.MergeLaws.{width-merge}
 use Rattle.mls_suite.specs.Crypto.{Crypto, Lawful}
 use Rattle.mls_treekem_model.specs.Chain.{next_secret, chain, node_key, node_public}
-use Rattle.mls_treekem_model.specs.Keys.{Keys, Fits, AreKeysOnWay, Exact, rest, key_in}
+use Rattle.mls_treekem_model.specs.Keys.{Keys, HoldsDueKey, AreKeysOnWay, Exact, rest, key_in}
 use Rattle.mls_treekem_model.specs.Make.{climb_past_node, climb_past_blank, Climb, one_if, filtered_count, secret_above, made_keys, climb_make}
 use Rattle.mls_treekem_model.specs.Lists.{ListsBelow}
 use Rattle.mls_treekem_model.specs.Seal.{Choose, targets, seal_secret, IsSealedTo, IsSealedToAll, IsNodeFor, IsPathOf}
-use Rattle.mls_treekem_model.specs.Open.{opened_along, nodes_below, open_with, open_first, first_ciphertexts, open_at_ancestor, climb_past_filtered, climb_past_parent, climb_open, shared_keys, held_count}
+use Rattle.mls_treekem_model.specs.Open.{opened_along, nodes_below, open_with, open_first, first_ciphertexts, open_at_ancestor, climb_past_filtered, climb_past_parent, climb_open}
 use Rattle.mls_treekem_model.specs.Join.{secret_for}
 use Rattle.mls_treekem_model.proofs.FollowLaws.{along_taken}
 use Rattle.mls_treekem_model.proofs.MeetLaws.{Meets, meets_from, along_from}
@@ -33,6 +33,7 @@ use Rattle.mls_treekem_model.proofs.ListLaws.{lists_left, lists_right}
 use Rattle.mls_treekem_model.proofs.EntryLaws.{one_entry, entry_key}
 use Rattle.mls_treekem_model.proofs.MakeLaws.{merged_way, way_merge}
 use Rattle.mls_treekem_model.proofs.SealLaws.{unsealed}
+use Rattle.mls_treekem_model.specs.Laws.{shared_keys, held_count}
 
 abbrev keys_of : List UpdatePathNode → List (List ℕ)
 keys_of ns = map (λ n. n.encryption_key) ns
@@ -46,7 +47,7 @@ keys_left false ns = refl
 record Passes (c : Crypto) (j : ℕ) (p : Option Parent) (m m' : Climb) : Type 0 where
   top : Option (List ℕ)
   keys_are : m'.keys ≡ top ∷ m.keys
-  fits : Fits c j p top
+  fits : HoldsDueKey c j p top
 
 passes : (c : Crypto) (j : ℕ) (t : Bool) (ns : List UpdatePathNode) (h : List ℕ) (m m' : Climb) → climb_past_parent c t ns m ≡ Ok m' → Passes c j (new_parent t (keys_of ns) h) m m'
 passes c j false ns h m m' e =
@@ -65,37 +66,37 @@ passes c j true (n ∷ ns) h m m' e = by_test (bytes_eq (node_public c m.secret)
     by_test false f e = cc
 
 meets_open : (c : Crypto) (context : List ℕ) (added : List ℕ) (j : ℕ) (ss : List Step) (ks : Keys) (ns : List UpdatePathNode) (h : List ℕ) (m : Climb) →
-    Meets c (Fits c j) j ss ks → climb_open c context added ss j ks ns ≡ Ok m → Meets c (Fits c j) j (merged_way ss (keys_of ns) h) m.keys
+    Meets c (HoldsDueKey c j) j ss ks → climb_open c context added ss j ks ns ≡ Ok m → Meets c (HoldsDueKey c j) j (merged_way ss (keys_of ns) h) m.keys
 unfolding Meets climb_open merged_way
 meets_open c context added j [] ks ns h m k e = absurd k
 meets_open c context added j (s ∷ ss) [] ns h m k e = absurd k
 meets_open c context added j (s ∷ ss) (o ∷ ks) ns h m k e =
     let b = bind_ok (if is_beside s j then open_at_ancestor c context added s j ks ns else climb_open c context added ss j ks (nodes_below (is_filtered s) ns)) (λ z. climb_past_parent c (is_filtered s) ns z) m e in
     let p = passes c j (is_filtered s) ns h b.0 m b.2 in
-    subst (λ (zs : Keys). Meets c (Fits c j) j (merged_way (s ∷ ss) (keys_of ns) h) zs) (sym p.keys_are)
+    subst (λ (zs : Keys). Meets c (HoldsDueKey c j) j (merged_way (s ∷ ss) (keys_of ns) h) zs) (sym p.keys_are)
     (p.fits, by_side (is_beside s j) b.0 b.1 k.1 (λ (g : List ℕ). meets_open c context added j ss ks (nodes_below (is_filtered s) ns) g b.0))
   where
     by_side : (t : Bool) (m0 : Climb) → (if t then open_at_ancestor c context added s j ks ns else climb_open c context added ss j ks (nodes_below (is_filtered s) ns)) ≡ Ok m0 →
-        Choose t (AreKeysOnWay c (Fits c j) s.first s.other j ks) (Meets c (Fits c j) j ss ks) →
-        ((g : List ℕ) → Meets c (Fits c j) j ss ks → climb_open c context added ss j ks (nodes_below (is_filtered s) ns) ≡ Ok m0 → Meets c (Fits c j) j (merged_way ss (keys_of (nodes_below (is_filtered s) ns)) g) m0.keys) →
-        Choose t (AreKeysOnWay c (Fits c j) s.first s.other j m0.keys) (Meets c (Fits c j) j (merged_way ss (keys_beside s.first s.other (keys_of ns)) (hash_beside s.first s.other (keys_of ns) h)) m0.keys)
+        Choose t (AreKeysOnWay c (HoldsDueKey c j) s.first s.other j ks) (Meets c (HoldsDueKey c j) j ss ks) →
+        ((g : List ℕ) → Meets c (HoldsDueKey c j) j ss ks → climb_open c context added ss j ks (nodes_below (is_filtered s) ns) ≡ Ok m0 → Meets c (HoldsDueKey c j) j (merged_way ss (keys_of (nodes_below (is_filtered s) ns)) g) m0.keys) →
+        Choose t (AreKeysOnWay c (HoldsDueKey c j) s.first s.other j m0.keys) (Meets c (HoldsDueKey c j) j (merged_way ss (keys_beside s.first s.other (keys_of ns)) (hash_beside s.first s.other (keys_of ns) h)) m0.keys)
     by_side true m0 e k rec =
         let b = bind_ok (open_first c context (key_in s.first s.other j ks) (targets added s) (first_ciphertexts ns)) (λ secret. Ok (record { secret = secret; keys = ks })) m0 e in
         let made : Climb = record { secret = b.0; keys = ks } in
         let same : made ≡ m0 = cc (b.2) in
-        subst (λ (z : Climb). AreKeysOnWay c (Fits c j) s.first s.other j z.keys) same k
+        subst (λ (z : Climb). AreKeysOnWay c (HoldsDueKey c j) s.first s.other j z.keys) same k
     by_side false m0 e k rec =
         let g : List ℕ = hash_beside s.first s.other (keys_of ns) h in
-        subst (λ (zs : List (List ℕ)). Meets c (Fits c j) j (merged_way ss zs g) m0.keys) (keys_left (is_filtered s) ns) (rec g k e)
+        subst (λ (zs : List (List ℕ)). Meets c (HoldsDueKey c j) j (merged_way ss zs g) m0.keys) (keys_left (is_filtered s) ns) (rec g k e)
 
 -- what is accepted keeps exact keys
 pub climb_exact : (c : Crypto) (context : List ℕ) (added : List ℕ) (b : ℕ) (t : Term) (i j : ℕ) (ks : Keys) (ns : List UpdatePathNode) (h : List ℕ) (x : LeafNode) (m : Climb) →
     IsIn b t i → IsIn b t j → (j ≡ i → ⊥) → Exact c b t j ks → climb_open c context added (way b t i) j ks ns ≡ Ok m → Exact c b (merge b t i (map (λ n. n.encryption_key) ns) h x) j m.keys
 climb_exact c context added b t i j ks ns h x m hi hj ne k e =
     let size : width (merge b t i (keys_of ns) h x) ≡ width t = width-merge b t i (keys_of ns) h x in
-    let before : Meets c (Fits c j) j (way b t i) ks = meets_from c (Fits c j) i j ne b t ks hi hj k in
-    let after : Meets c (Fits c j) j (merged_way (way b t i) (keys_of ns) h) m.keys = meets_open c context added j (way b t i) ks ns h m before e in
-    along_from c (Fits c j) i j ne b (merge b t i (keys_of ns) h x) m.keys
+    let before : Meets c (HoldsDueKey c j) j (way b t i) ks = meets_from c (HoldsDueKey c j) i j ne b t ks hi hj k in
+    let after : Meets c (HoldsDueKey c j) j (merged_way (way b t i) (keys_of ns) h) m.keys = meets_open c context added j (way b t i) ks ns h m before e in
+    along_from c (HoldsDueKey c j) i j ne b (merge b t i (keys_of ns) h x) m.keys
     (record { low = hi.low; high = rw size hi.high }) (record { low = hj.low; high = rw size hj.high })
     (rw (way_merge b t i (keys_of ns) h x) after)
 
@@ -160,7 +161,7 @@ past_made c n ns m h =
     rw e refl
 
 -- at the parent where the ways part, a member opens what was sealed for its side
-opened_here : (c : Crypto) (l : Lawful c) (context : List ℕ) (added : List ℕ) (j : ℕ) (s : Step) (secret : List ℕ) (ks : Keys) (ns : List UpdatePathNode) → length secret ≡ 32 → has added j ≡ false → ListsBelow s.first s.other → is_beside s j ≡ true → AreKeysOnWay c (Fits c j) s.first s.other j ks → IsNodeFor c context added s secret ns →
+opened_here : (c : Crypto) (l : Lawful c) (context : List ℕ) (added : List ℕ) (j : ℕ) (s : Step) (secret : List ℕ) (ks : Keys) (ns : List UpdatePathNode) → length secret ≡ 32 → has added j ≡ false → ListsBelow s.first s.other → is_beside s j ≡ true → AreKeysOnWay c (HoldsDueKey c j) s.first s.other j ks → IsNodeFor c context added s secret ns →
     open_first c context (key_in s.first s.other j ks) (targets added s) (first_ciphertexts ns) ≡ Ok secret
 opened_here c l context added j s secret ks [] long old good e h node = absurd node
 opened_here c l context added j s secret ks (n ∷ ns) long old good e h node =
@@ -171,7 +172,7 @@ opened_here c l context added j s secret ks (n ∷ ns) long old good e h node =
     (targets added s) n.ciphertexts 0 node.1 one
 
 pub opened_along_is : (c : Crypto) (l : Lawful c) (context : List ℕ) (added : List ℕ) (j : ℕ) (start : List ℕ) → length start ≡ 32 → has added j ≡ false →
-    (ss : List Step) (ks : Keys) (ns : List UpdatePathNode) → GoodSides ss → Meets c (Fits c j) j ss ks → IsPathOf c context added ss start ns →
+    (ss : List Step) (ks : Keys) (ns : List UpdatePathNode) → GoodSides ss → Meets c (HoldsDueKey c j) j ss ks → IsPathOf c context added ss start ns →
     opened_along c context added ss j ks ns ≡ Ok (secret_for ss j start)
 unfolding GoodSides Meets IsPathOf opened_along secret_for
 opened_along_is c l context added j start long old [] ks ns good h path = absurd h
@@ -183,18 +184,18 @@ opened_along_is c l context added j start long old (s ∷ ss) (o ∷ ks) ns good
     secret = secret_above ss start
 
     by_tests : (u t : Bool) → is_beside s j ≡ u → is_filtered s ≡ t →
-        Choose u (AreKeysOnWay c (Fits c j) s.first s.other j ks) (Meets c (Fits c j) j ss ks) →
+        Choose u (AreKeysOnWay c (HoldsDueKey c j) s.first s.other j ks) (Meets c (HoldsDueKey c j) j ss ks) →
         Choose t (IsNodeFor c context added s secret ns × IsPathOf c context added ss start (rest ns)) (IsPathOf c context added ss start ns) →
-        (Meets c (Fits c j) j ss ks → IsPathOf c context added ss start (nodes_below (is_filtered s) ns) → opened_along c context added ss j ks (nodes_below (is_filtered s) ns) ≡ Ok (secret_for ss j start)) →
+        (Meets c (HoldsDueKey c j) j ss ks → IsPathOf c context added ss start (nodes_below (is_filtered s) ns) → opened_along c context added ss j ks (nodes_below (is_filtered s) ns) ≡ Ok (secret_for ss j start)) →
         (if u then open_first c context (key_in s.first s.other j ks) (targets added s) (first_ciphertexts ns) else opened_along c context added ss j ks (nodes_below (is_filtered s) ns))
         ≡ Ok (if u then secret else secret_for ss j start)
-    by_tests true false e f h path rec = let g = beside_filtered c (Fits c j) s j ks h in absurd (cc (f, g))
+    by_tests true false e f h path rec = let g = beside_filtered c (HoldsDueKey c j) s j ks h in absurd (cc (f, g))
     by_tests true true e f h path rec = opened_here c l context added j s secret ks ns (chain_length start (filtered_count ss) long) old good.0 e h path.0
     by_tests false true e f h path rec = rec h (rw f path.1)
     by_tests false false e f h path rec = rec h (rw f path)
 
 agree_along : (c : Crypto) (l : Lawful c) (context : List ℕ) (added : List ℕ) (j : ℕ) (start sk : List ℕ) → length start ≡ 32 → has added j ≡ false →
-    (ss : List Step) (ks : Keys) (ns : List UpdatePathNode) → GoodSides ss → Meets c (Fits c j) j ss ks → IsPathOf c context added ss start ns →
+    (ss : List Step) (ks : Keys) (ns : List UpdatePathNode) → GoodSides ss → Meets c (HoldsDueKey c j) j ss ks → IsPathOf c context added ss start ns →
     climb_open c context added ss j ks ns ≡ Ok (record { secret = secret_above ss start; keys = shared_keys ss j (made_keys c ss start sk) ks })
 unfolding GoodSides Meets IsPathOf climb_open shared_keys made_keys filtered_count chain
 agree_along c l context added j start sk long old [] ks ns good h path = absurd h
@@ -213,17 +214,17 @@ agree_along c l context added j start sk long old (s ∷ ss) (o ∷ ks) ns good 
     at_parent [] h zs = absurd h
     at_parent (n ∷ ns) h zs = past_made c n ns (record { secret = secret; keys = zs }) h.0
 
-    here : (ns : List UpdatePathNode) → is_beside s j ≡ true → AreKeysOnWay c (Fits c j) s.first s.other j ks → IsNodeFor c context added s secret ns →
+    here : (ns : List UpdatePathNode) → is_beside s j ≡ true → AreKeysOnWay c (HoldsDueKey c j) s.first s.other j ks → IsNodeFor c context added s secret ns →
         open_at_ancestor c context added s j ks ns ≡ Ok (record { secret = secret; keys = ks })
     here ns e h node = let q = opened_here c l context added j s secret ks ns (chain_length start (filtered_count ss) long) old good.0 e h node in rw q refl
 
     by_tests : (u t : Bool) → is_beside s j ≡ u → is_filtered s ≡ t →
-        Choose u (AreKeysOnWay c (Fits c j) s.first s.other j ks) (Meets c (Fits c j) j ss ks) →
+        Choose u (AreKeysOnWay c (HoldsDueKey c j) s.first s.other j ks) (Meets c (HoldsDueKey c j) j ss ks) →
         Choose t (IsNodeFor c context added s secret ns × IsPathOf c context added ss start (rest ns)) (IsPathOf c context added ss start ns) →
-        (Meets c (Fits c j) j ss ks → IsPathOf c context added ss start (nodes_below (is_filtered s) ns) →
+        (Meets c (HoldsDueKey c j) j ss ks → IsPathOf c context added ss start (nodes_below (is_filtered s) ns) →
         climb_open c context added ss j ks (nodes_below (is_filtered s) ns) ≡ Ok (record { secret = secret; keys = shared_keys ss j made ks })) →
         climb_open c context added (s ∷ ss) j (o ∷ ks) ns ≡ Ok (record { secret = secret_above (s ∷ ss) start; keys = shared_keys (s ∷ ss) j (made_keys c (s ∷ ss) start sk) (o ∷ ks) })
-    by_tests true false e f h path rec = let g = beside_filtered c (Fits c j) s j ks h in absurd (cc (f, g))
+    by_tests true false e f h path rec = let g = beside_filtered c (HoldsDueKey c j) s j ks h in absurd (cc (f, g))
     by_tests true true e f h path rec =
         let q = here ns e h path.0 in
         let p = at_parent ns path.0 ks in
@@ -240,4 +241,4 @@ pub climb_agree : (c : Crypto) (l : Lawful c) (context : List ℕ) (added : List
     IsIn b t i → IsIn b t j → (j ≡ i → ⊥) → ListsBelow b t → Exact c b t j ks → has added j ≡ false → IsPathOf c context added (way b t i) start ns →
     climb_open c context added (way b t i) j ks ns ≡ Ok (record { secret = (climb_make c (way b t i) start sk).secret; keys = shared_keys (way b t i) j (climb_make c (way b t i) start sk).keys ks })
 climb_agree c l context added b t i j start sk ks ns long hi hj ne good h old path =
-    agree_along c l context added j start sk long old (way b t i) ks ns (good_sides b t i good) (meets_from c (Fits c j) i j ne b t ks hi hj h) path
+    agree_along c l context added j start sk long old (way b t i) ks ns (good_sides b t i good) (meets_from c (HoldsDueKey c j) i j ne b t ks hi hj h) path

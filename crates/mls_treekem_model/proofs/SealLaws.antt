@@ -13,9 +13,9 @@ use Rattle.mls_tree_model.specs.Way.{is_filtered}
 use Rattle.mls_treekem_model.specs.Chain.{node_public}
 use Rattle.mls_treekem_model.specs.Keys.{rest}
 use Rattle.mls_treekem_model.specs.Make.{secret_above}
-use Rattle.mls_treekem_model.specs.Seal.{Choose, targets, seal_count, ciphertext_of, seal_secret, IsSealedTo, IsSealedToAll, IsNodeFor, IsPathOf, seal_to, cons_both, seal_all, with_ciphertexts, path_past, seal_along, is_fit, all_fit, targets_fit}
+use Rattle.mls_treekem_model.specs.Seal.{Choose, targets, seal_count, ciphertext_of, seal_secret, IsSealedTo, IsSealedToAll, IsNodeFor, IsPathOf, seal_to, cons_both, seal_all, with_ciphertexts, path_past, seal_along}
 use Rattle.mls_treekem_model.specs.Open.{unseal_secret}
-use Rattle.mls_treekem_model.specs.Laws.{MadePath, PathMade}
+use Rattle.mls_treekem_model.specs.Laws.{MadePath, PathMade, has_fit_key, all_fit, targets_fit}
 
 -- what is sealed to a public key is opened by its private key
 pub unsealed : (c : Crypto) (l : Lawful c) (context secret k rnd : List ℕ) (x : HpkeCiphertext) → seal_secret c context secret (c.public k) rnd ≡ Some x → unseal_secret c context k x ≡ Some secret
@@ -88,7 +88,7 @@ map_some : {A B : Type 0} (f : A → B) (o : Option A) → is_some (option_map f
 map_some f (Some x) = refl
 map_some f None = refl
 
-seal_some : (c : Crypto) (l : Lawful c) (context secret : List ℕ) (key : Option (List ℕ)) (rnd : List ℕ) → is_some (seal_to c context secret key rnd) ≡ is_fit c key
+seal_some : (c : Crypto) (l : Lawful c) (context secret : List ℕ) (key : Option (List ℕ)) (rnd : List ℕ) → is_some (seal_to c context secret key rnd) ≡ has_fit_key c key
 unfolding seal_secret
 seal_some c l context secret (Some pk) rnd =
     map_some ciphertext_of (encrypt_with_label c pk (codes "UpdatePathNode") context secret rnd)
@@ -101,7 +101,7 @@ seals_some c l context secret b t rnd i [] = refl
 seals_some c l context secret b t rnd i (d ∷ ds) =
     cons_some (seal_to c context secret (key_at b t d) (rnd i)) (seal_all c context secret b t rnd (suc i) ds)
     ∙ ap (λ z. z && is_some (seal_all c context secret b t rnd (suc i) ds)) (seal_some c l context secret (key_at b t d) (rnd i))
-    ∙ ap (λ z. is_fit c (key_at b t d) && z) (seals_some c l context secret b t rnd (suc i) ds)
+    ∙ ap (λ z. has_fit_key c (key_at b t d) && z) (seals_some c l context secret b t rnd (suc i) ds)
 
 with_some : (k : List ℕ) (o : Option (List HpkeCiphertext)) → is_some (with_ciphertexts k o) ≡ is_some o
 with_some k (Some xs) = refl

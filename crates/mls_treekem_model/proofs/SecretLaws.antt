@@ -11,10 +11,11 @@ use Rattle.mls_tree_model.specs.Way.{Step, way, is_filtered, is_beside}
 use Rattle.mls_tree_model.proofs.EntryLaws.{one_filtered}
 use Rattle.mls_treekem_model.specs.Chain.{chain, path_secrets, node_public}
 use Rattle.mls_treekem_model.specs.Make.{one_if, filtered_count, secret_above}
-use Rattle.mls_treekem_model.specs.Seal.{targets, seal_count, seal_all, with_ciphertexts, path_past, seal_along, node_with, seal_path_with, sealed_path, sealed_path_with}
-use Rattle.mls_treekem_model.specs.Join.{secret_for, secret_among}
+use Rattle.mls_treekem_model.specs.Seal.{targets, seal_count, seal_all, with_ciphertexts, path_past, seal_along, sealed_path}
+use Rattle.mls_treekem_model.specs.Join.{secret_for}
 use Rattle.mls_treekem_model.specs.Whole.{SealedOfChain, SecretIsAmong}
 use Rattle.mls_treekem_model.proofs.MakeLaws.{count_is_length}
+use Rattle.mls_treekem_model.specs.GivenSecrets.{node_with, seal_path_with, sealed_path_with, secret_among}
 
 length-secrets : (start : List ℕ) (n : ℕ) → length (path_secrets start n) ≡ n
 unfolding path_secrets

@@ -13,12 +13,11 @@ use Rattle.mls_tree_model.proofs.Equations.{way_left, way_right}
 use Rattle.mls_tree_model.specs.Laws.{IsIn}
 use Rattle.mls_tree_model.proofs.ShapeLaws.{size-width}
 use Rattle.mls_suite.specs.Crypto.{Crypto}
-use Rattle.mls_treekem_model.specs.Keys.{Keys, Fits, Exact, key_in}
+use Rattle.mls_treekem_model.specs.Keys.{Keys, HoldsDueKey, Exact, key_in}
 use Rattle.mls_treekem_model.specs.Make.{one_if}
 use Rattle.mls_treekem_model.specs.Lists.{ListsBelow, below_here}
 use Rattle.mls_treekem_model.specs.Seal.{targets}
-use Rattle.mls_treekem_model.specs.Open.{held_count}
-use Rattle.mls_treekem_model.specs.Laws.{OneNode, OneTarget}
+use Rattle.mls_treekem_model.specs.Laws.{OneNode, OneTarget, held_count}
 use Rattle.mls_treekem_model.proofs.WayLaws.{along_none, along_left, along_right}
 use Rattle.mls_treekem_model.proofs.ListLaws.{lists_left, lists_right, below_bound}
 use Rattle.mls_treekem_model.proofs.EntryLaws.{key_left, key_right, key_outside, one_entry}
@@ -129,7 +128,7 @@ module _ (c : Crypto) (added : List ℕ) where
   one_along : (b : ℕ) (t : Term) (i j : ℕ) (ks : Keys) → IsIn b t i → IsIn b t j → (j ≡ i → ⊥) → ListsBelow b t → Exact c b t j ks → has added j ≡ false → held_count (key_in b t j ks) (reached_along added (way b t i)) ≡ 1
   unfolding width
   one_along b (Leaf v) i j ks hi hj ne good h old = absurd (ne (omega arith))
-  one_along b (Branch p l r) i j [] hi hj ne good h old = absurd (along_none c (Fits c j) b p l r j h)
+  one_along b (Branch p l r) i j [] hi hj ne good h old = absurd (along_none c (HoldsDueKey c j) b p l r j h)
   one_along b (Branch p l r) i j (o ∷ ks) hi hj ne good h old =
       let s = size-width l in
       let f : ℕ → Option (List ℕ) = key_in b (Branch p l r) j (o ∷ ks) in
@@ -150,7 +149,7 @@ module _ (c : Crypto) (added : List ℕ) where
                   let k = reached_in added b l i d goodl e in
                   let high : d < 2 * b + size l = k.1 in
                   key_left b p l r j o ks d (λ q. omega arith) lj)
-                  ∙ one_along b l i j ks (record { low = hi.low; high = li }) inside ne goodl (along_left c (Fits c j) b p l r j o ks lj h).1 old)
+                  ∙ one_along b l i j ks (record { low = hi.low; high = li }) inside ne goodl (along_left c (HoldsDueKey c j) b p l r j o ks lj h).1 old)
                   refl
               | inr rj ↦
                   let inside : IsIn (b + width l) r j = record { low = rj; high = omega arith } in
@@ -159,7 +158,7 @@ module _ (c : Crypto) (added : List ℕ) where
                   let k = target_in added top d goodr e in
                   let low : 2 * (b + width l) ≤ d = k.0 in
                   key_right b p l r j o ks d (λ q. omega arith) rj)
-                  ∙ (unfold targets in one_entry c added (b + width l) r j ks goodr inside (along_right c (Fits c j) b p l r j o ks rj h).1 old))
+                  ∙ (unfold targets in one_entry c added (b + width l) r j ks goodr inside (along_right c (HoldsDueKey c j) b p l r j o ks rj h).1 old))
                   (count_same f (λ d. None) (reached_along added (way b l i)) (λ d e.
                   let k = reached_in added b l i d goodl e in
                   let high : d < 2 * b + size l = k.1 in
@@ -176,7 +175,7 @@ module _ (c : Crypto) (added : List ℕ) where
                   let k = target_in added top d goodl e in
                   let high : d < 2 * b + size l = k.1 in
                   key_left b p l r j o ks d (λ q. omega arith) lj)
-                  ∙ (unfold targets in one_entry c added b l j ks goodl inside (along_left c (Fits c j) b p l r j o ks lj h).1 old))
+                  ∙ (unfold targets in one_entry c added b l j ks goodl inside (along_left c (HoldsDueKey c j) b p l r j o ks lj h).1 old))
                   (count_same f (λ d. None) (reached_along added (way (b + width l) r i)) (λ d e.
                   let k = reached_in added (b + width l) r i d goodr e in
                   let low : 2 * (b + width l) ≤ d = k.0 in
@@ -193,7 +192,7 @@ module _ (c : Crypto) (added : List ℕ) where
                   let k = reached_in added (b + width l) r i d goodr e in
                   let low : 2 * (b + width l) ≤ d = k.0 in
                   key_right b p l r j o ks d (λ q. omega arith) rj)
-                  ∙ one_along (b + width l) r i j ks (record { low = ri; high = omega arith }) inside ne goodr (along_right c (Fits c j) b p l r j o ks rj h).1 old)
+                  ∙ one_along (b + width l) r i j ks (record { low = ri; high = omega arith }) inside ne goodr (along_right c (HoldsDueKey c j) b p l r j o ks rj h).1 old)
                   refl
             ]
       ]

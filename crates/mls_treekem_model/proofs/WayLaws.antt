@@ -6,7 +6,7 @@ use Rattle.mls_tree_model.specs.Term.{Term, Branch, width, leaf_at}
 use Rattle.mls_tree_model.proofs.Equations.{way_left, way_right, leaf_at_left, leaf_at_right}
 use Rattle.mls_suite.specs.Crypto.{Crypto}
 use Rattle.mls_treekem_model.specs.Keys.{Keys, AreKeysAlong, AreKeysOnWay}
-use Rattle.mls_treekem_model.specs.Follow.{TameAt, TameAlong, Tame}
+use Rattle.mls_treekem_model.specs.Tame.{TameAt, TameAlong, Tame}
 
 pub within : (a n j : ℕ) → a ≤ j → j < a + n → (nat_le a j && nat_lt j (a + n)) ≡ true
 within a n j h k = let e = le-leb a j h in let f = lt-ltb j (a + n) k in rw (e, f)

@@ -17,15 +17,14 @@ use Rattle.mls_tree_model.specs.Laws.{IsIn}
 use Rattle.mls_tree_model.proofs.ShapeLaws.{width-put}
 use Rattle.mls_tree_model.proofs.PlaceLaws.{first_blank_at, width-grow}
 use Rattle.mls_suite.specs.Crypto.{Crypto}
-use Rattle.mls_treekem_model.specs.Chain.{chain, chain_keys}
-use Rattle.mls_treekem_model.specs.Keys.{Fits, Exact, rest}
-use Rattle.mls_treekem_model.specs.Follow.{Tame, TameEdits}
+use Rattle.mls_treekem_model.specs.Chain.{chain, chain_keys, keys_of_path}
+use Rattle.mls_treekem_model.specs.Keys.{HoldsDueKey, Exact, rest}
 use Rattle.mls_treekem_model.specs.Make.{Climb, filtered_count, secret_above, made_keys, path_keys}
 use Rattle.mls_treekem_model.specs.Seal.{Choose, targets, sealed_path, seal_along, IsSealedToAll, IsNodeFor, IsPathOf}
 use Rattle.mls_treekem_model.specs.Open.{opened_along, opened_secret, opened_path, climb_open}
 use Rattle.mls_treekem_model.specs.Join.{take_keys, AllList, secret_for}
 use Rattle.mls_treekem_model.specs.Laws.{AreTwo}
-use Rattle.mls_treekem_model.specs.Whole.{keys_of_path, SecretMerged, OpenedIsSent, AddKeepsListed, AddedIsListed, FilteredMerged, FollowsAdd, FollowsRemove, FollowsUpdate, LengthMerged, MadeExact, MadeMerged, OpenedAgrees, OpenedExact, OpenedMerged, RefusedWhereUnfit, SealedKeys, SealedLengths, SealedMerged, SealedWhereFit, SecretForMerged, TakenAgrees}
+use Rattle.mls_treekem_model.specs.Whole.{SecretMerged, OpenedIsSent, AddKeepsListed, AddedIsListed, FilteredMerged, FollowsAdd, FollowsRemove, FollowsUpdate, LengthMerged, MadeExact, MadeMerged, OpenedAgrees, OpenedExact, OpenedMerged, RefusedWhereUnfit, SealedKeys, SealedLengths, SealedMerged, SealedWhereFit, SecretForMerged, TakenAgrees}
 use Rattle.mls_treekem_model.proofs.FollowLaws.{tame_refl, tame_put, tame_enter}
 use Rattle.mls_treekem_model.proofs.OnePassLaws.{follows_trans, follows_tame, follows_grow, follows_trim}
 use Rattle.mls_treekem_model.proofs.MakeLaws.{merged_step, merged_way, way_merge, keys_are_chain, keys_of_secrets, count_is_length, make_exact}
@@ -34,6 +33,7 @@ use Rattle.mls_treekem_model.proofs.SealLaws.{made_path, path_some}
 use Rattle.mls_treekem_model.proofs.OpenLaws.{climb_exact, climb_agree, opened_along_is, good_sides}
 use Rattle.mls_treekem_model.proofs.MeetLaws.{meets_from}
 use Rattle.mls_treekem_model.proofs.JoinLaws.{take_agree, entered_lists, tame_lists}
+use Rattle.mls_treekem_model.specs.Tame.{Tame, TameEdits}
 
 -- ---- edits
 
@@ -253,7 +253,7 @@ opened_is_sent c l context added rnd t i j start ks path long two good exact old
     let p : IsPathOf c context added (way 0 t i) start s.nodes = made_path c context added rnd (way 0 t i) start s.nodes s.sealed in
     let turned : reverse path ≡ s.nodes = ap reverse s.turned ∙ reverse-reverse s.nodes in
     ap (opened_along c context added (way 0 t i) j ks) turned
-    ∙ opened_along_is c l context added j start long old (way 0 t i) ks s.nodes (good_sides 0 t i good) (meets_from c (Fits c j) i j two.apart 0 t ks two.first two.second exact) p
+    ∙ opened_along_is c l context added j start long old (way 0 t i) ks s.nodes (good_sides 0 t i good) (meets_from c (HoldsDueKey c j) i j two.apart 0 t ks two.first two.second exact) p
 
 pub taken_agrees : TakenAgrees
 taken_agrees c t i j x y start own two leaf is_own lists =

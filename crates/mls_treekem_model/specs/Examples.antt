@@ -8,8 +8,8 @@ use Rattle.mls_tree_model.specs.Examples.{member, over, listing_these}
 use Rattle.mls_treekem_model.specs.Chain.{next_secret, node_key}
 use Rattle.mls_treekem_model.specs.Make.{secret_above, made_keys}
 use Rattle.mls_treekem_model.specs.Seal.{targets}
-use Rattle.mls_treekem_model.specs.Open.{shared_keys}
 use Rattle.mls_treekem_model.specs.Pairs.{Pair, pairs}
+use Rattle.mls_treekem_model.specs.Laws.{shared_keys}
 
 -- a path of no nodes: the commit secret is the first secret
 abbrev pub SecretOfOne : Type 0

@@ -3,8 +3,8 @@ use Rattle.std.specs.Prelude.{◌≡◌, ℕ, zero, suc, ◌+◌, ◌-◌, ◌*�
 use Rattle.mls_tree_model.specs.Term.{Term, is_perfect}
 use Rattle.mls_tree_model.specs.Way.{Step, way}
 use Rattle.mls_tree_model.specs.Laws.{IsIn}
-use Rattle.mls_treekem_model.specs.Keys.{Keys, PrivateKeys, all_keys}
-use Rattle.mls_treekem_model.specs.Follow.{key_above, keys_on_way, follow_edit}
+use Rattle.mls_treekem_model.specs.Keys.{Keys, PrivateKeys, all_keys, key_above, keys_on_way}
+use Rattle.mls_treekem_model.specs.Follow.{follow_edit}
 use Rattle.mls_treekem_model.specs.Pairs.{Pair, pair_of, pairs}
 
 -- the keys that leaf j has in a perfect tree of height h whose first leaf is b, by rising number of the node
@@ -31,7 +31,3 @@ follow_above (s ∷ ss) ks = (if is_some s.parent then key_above (suc (length ss
 pub record HasFollowed (own : Option (List ℕ)) (t : Term) (old new : PrivateKeys) : Type 0 where
   pub leaf : new.leaf ≡ old.leaf
   pub keys : all_keys new ≡ follow_edit own (way 0 t old.leaf) (all_keys old)
-
--- a member's keys, one for each parent over its leaf in a whole tree: the key that it holds at that height, or none
-abbrev pub keys_on : Term → PrivateKeys → Keys
-keys_on t p = keys_on_way (way 0 t p.leaf) (all_keys p)

@@ -7,9 +7,7 @@ use Rattle.mls_suite.specs.Crypto.{Crypto}
 use Rattle.mls_tree_model.specs.Sets.{has}
 use Rattle.mls_tree_model.specs.Term.{Term, leaf_at}
 use Rattle.mls_tree_model.specs.Way.{Step, way}
-use Rattle.mls_treekem_model.specs.Height.{keys_on}
-use Rattle.mls_treekem_model.specs.Keys.{Keys, PrivateKeys}
-use Rattle.mls_treekem_model.specs.Members.{HasExact}
+use Rattle.mls_treekem_model.specs.Keys.{Keys, PrivateKeys, keys_on, HasExact}
 
 -- whether what leaf j holds at a parent is what is due: at a blank one nothing, nor at one of which it is an unmerged
 -- leaf; at another one its private key (RFC 9420, 7.1 and 7.5)

@@ -1,6 +1,5 @@
--- What a joiner takes from a path secret.
+-- What a joiner takes from a path secret (RFC 9420, 12.4.3.1).
 use Rattle.std.specs.Prelude.{◌≡◌, ℕ, nat_lt, not, ◌&&◌, ◌||◌, if◌then◌else◌, Bool, true, false, List, [], ◌∷◌, Option, Some, None, is_some, Result, Ok, Err}
-use Rattle.std.specs.List.{slice_get}
 use Rattle.std.specs.Str.{bytes_eq}
 use Rattle.mls_wire.specs.Reading.{◌>>=◌}
 use Rattle.mls_leaf.specs.Parent.{Parent}
@@ -9,9 +8,8 @@ use Rattle.mls_tree_model.specs.Sets.{has}
 use Rattle.mls_tree_model.specs.Term.{Term, width}
 use Rattle.mls_tree_model.specs.Way.{Step, way, is_beside}
 use Rattle.mls_treekem_model.specs.Chain.{node_public}
-use Rattle.mls_treekem_model.specs.Keys.{Keys, rest, leaf_only, PrivateKeys, all_keys}
-use Rattle.mls_treekem_model.specs.Make.{Climb, climb_past_blank, climb_past_node, filtered_count, secret_above}
-use Rattle.mls_treekem_model.specs.Follow.{keys_on_way}
+use Rattle.mls_treekem_model.specs.Keys.{Keys, rest, leaf_only, PrivateKeys, all_keys, keys_on_way}
+use Rattle.mls_treekem_model.specs.Make.{Climb, climb_past_blank, climb_past_node, secret_above}
 
 -- a climb past a parent: a blank one takes no step, another one doesn't list the joiner and has the derived public key,
 -- else `PathKeyMismatch` (34) (RFC 9420, 12.4.3.1)
@@ -32,7 +30,8 @@ require_present (Some p) m = Ok m
 unfoldable pub climb_take : Crypto → List Step → ℕ → Keys → List ℕ → Result Climb ℕ
 climb_take c [] j ks secret = Err 34
 climb_take c (s ∷ ss) j ks secret =
-    (if is_beside s j then require_present s.parent (record { secret = secret; keys = rest ks }) else climb_take c ss j (rest ks) secret)
+    (if is_beside s j then require_present s.parent (record { secret = secret; keys = rest ks })
+    else climb_take c ss j (rest ks) secret)
     >>= λ m. climb_past_present c j s.parent m
 
 -- whether the key at a parent isn't missing: the parent is blank or lists the joiner, or there is a key
@@ -46,12 +45,14 @@ is_complete j [] ks = true
 is_complete j (s ∷ ss) [] = false
 is_complete j (s ∷ ss) (o ∷ ks) = is_due j s.parent o && is_complete j ss ks
 
--- what joiner j, whose leaf has this key, takes in a whole tree that leaf i signed: the commit secret, and its keys. 34
--- where a parent over both is not as it must be (RFC 9420, 12.4.3.1); 35 where a key that is due is missing, which the
--- standard doesn't ask: with that key missing the member couldn't open each path that is sealed to it
+-- what joiner j, whose leaf has this key, takes in a whole tree that leaf i signed: the commit secret, and its keys.
+-- `PathKeyMismatch` (34) where a parent over both is not as it must be (RFC 9420, 12.4.3.1); `KeyMissing` (35) where a
+-- key that is due is missing, which the standard doesn't ask: with that key missing the member couldn't open each path
+-- that is sealed to it
 unfoldable pub take_keys : Crypto → Term → ℕ → ℕ → List ℕ → List ℕ → Result Climb ℕ
 take_keys c t i j sk secret =
-    climb_take c (way 0 t i) j (leaf_only (way 0 t j) sk) secret >>= λ m. if is_complete j (way 0 t j) m.keys then Ok m else Err 35
+    climb_take c (way 0 t i) j (leaf_only (way 0 t j) sk) secret
+    >>= λ m. if is_complete j (way 0 t j) m.keys then Ok m else Err 35
 
 -- what joiner j takes with any signer: `PathKeyMismatch` (34) where it is outside the tree
 unfoldable pub take_answer : Crypto → Term → ℕ → ℕ → List ℕ → List ℕ → Result Climb ℕ
@@ -73,11 +74,6 @@ AllList j (s ∷ ss) = ListsAt j s.parent × AllList j ss
 unfoldable pub secret_for : List Step → ℕ → List ℕ → List ℕ
 secret_for [] j start = start
 secret_for (s ∷ ss) j start = if is_beside s j then secret_above ss start else secret_for ss j start
-
--- among a path's secrets, the lowest node's first: that of the parent where a way and j's part, where there is one
-unfoldable pub secret_among : List Step → ℕ → List (List ℕ) → Option (List ℕ)
-secret_among [] j secrets = None
-secret_among (s ∷ ss) j secrets = if is_beside s j then slice_get secrets (filtered_count ss) else secret_among ss j secrets
 
 -- ---- the keys that are due
 

@@ -1,6 +1,6 @@
 -- The private keys that a member holds: a place for each parent over its leaf, the highest first, and the last place
 -- for the leaf. They are aligned with the way to the leaf.
-use Rattle.std.specs.Prelude.{◌≡◌, ℕ, ◌*◌, ◌==◌, if◌then◌else◌, Bool, true, false, List, [], ◌∷◌, Option, Some, None, ◌++◌}
+use Rattle.std.specs.Prelude.{◌≡◌, ℕ, ◌*◌, ◌==◌, if◌then◌else◌, Bool, true, false, List, [], ◌∷◌, Option, Some, None, ◌++◌, suc, length, ◌≤◌}
 use Rattle.mls_leaf.specs.Parent.{Parent}
 use Rattle.mls_leaf.specs.declared.leaf.LeafNode.{LeafNode}
 use Rattle.mls_suite.specs.Crypto.{Crypto}
@@ -21,10 +21,10 @@ HoldsKey c false p None = ⊥
 HoldsKey c false p (Some k) = c.public k ≡ p.encryption_key
 
 -- the key that is held by member j at a parent that may be blank is as it must be: at a blank one none is
-abbrev pub Fits : Crypto → ℕ → Option Parent → Option (List ℕ) → Type 0
-Fits c j None None = Unit {0}
-Fits c j None (Some k) = ⊥
-Fits c j (Some p) o = HoldsKey c (has p.unmerged_leaves j) p o
+abbrev pub HoldsDueKey : Crypto → ℕ → Option Parent → Option (List ℕ) → Type 0
+HoldsDueKey c j None None = Unit {0}
+HoldsDueKey c j None (Some k) = ⊥
+HoldsDueKey c j (Some p) o = HoldsKey c (has p.unmerged_leaves j) p o
 
 -- what is left of the keys at a leaf is its private key alone
 abbrev pub IsOwnKey : Crypto → Option LeafNode → Keys → Type 0
@@ -47,7 +47,7 @@ AreKeysOnWay c F b t j ks = AreKeysAlong c F (way b t j) (leaf_at b t j) ks
 -- member j of a tree whose first leaf is b has a key exactly at its leaf and at each parent over it that isn't blank
 -- and doesn't list it, and there the one whose public key is the node's (RFC 9420, 7.5 and 7.6)
 abbrev pub Exact : Crypto → ℕ → Term → ℕ → Keys → Type 0
-Exact c b t j ks = AreKeysOnWay c (Fits c j) b t j ks
+Exact c b t j ks = AreKeysOnWay c (HoldsDueKey c j) b t j ks
 
 -- all but the first of a list
 abbrev pub rest : {A : Type 0} → List A → List A
@@ -79,3 +79,24 @@ pub record PrivateKeys : Type 0 where
 -- all its keys, the highest first
 abbrev pub all_keys : PrivateKeys → Keys
 all_keys p = p.above ++ (Some p.own ∷ [])
+
+-- ---- in a whole tree, by the height above the leaf
+
+-- the key that is held n nodes above the leaf
+unfoldable pub key_above : ℕ → Keys → Option (List ℕ)
+key_above n [] = None
+key_above n (o ∷ ks) = if length ks == n then o else key_above n ks
+
+-- the keys by their height above the leaf, on a way of any length: none where nothing is so high
+unfoldable pub keys_on_way : List Step → Keys → Keys
+keys_on_way [] ks = key_above 0 ks ∷ []
+keys_on_way (s ∷ ss) ks = key_above (suc (length ss)) ks ∷ keys_on_way ss ks
+
+-- a member's keys, one for each parent over its leaf in a whole tree: the key that it holds at that height, or none
+abbrev pub keys_on : Term → PrivateKeys → Keys
+keys_on t p = keys_on_way (way 0 t p.leaf) (all_keys p)
+
+-- a member's keys are exact on its way in a whole tree, and none is higher (RFC 9420, 7.5 and 7.6)
+pub record HasExact (c : Crypto) (t : Term) (p : PrivateKeys) : Type 0 where
+  pub keys : Exact c 0 t p.leaf (keys_on t p)
+  pub low : length p.above ≤ length (way 0 t p.leaf)

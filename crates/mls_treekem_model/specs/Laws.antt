@@ -1,5 +1,5 @@
 -- The laws of a member's private keys.
-use Rattle.std.specs.Prelude.{◌≡◌, ℕ, ◌+◌, ◌*◌, ◌≤◌, ◌↔◌, true, false, nat_eq, List, [], ◌∷◌, map, filter, length, reverse, Option, Some, None, is_some, IsSome, Ok, ◌<◌, ◌%◌, ◌^◌}
+use Rattle.std.specs.Prelude.{◌≡◌, ℕ, ◌+◌, ◌*◌, ◌≤◌, ◌↔◌, true, false, nat_eq, List, [], ◌∷◌, map, filter, length, reverse, Option, Some, None, is_some, IsSome, Ok, ◌<◌, ◌%◌, ◌^◌, not, ◌&&◌, ◌||◌, Bool, if◌then◌else◌}
 use Rattle.std.specs.List.{flat_map}
 use Rattle.mls_types.specs.declared.update_path.UpdatePathNode.{UpdatePathNode}
 use Rattle.mls_leaf.specs.declared.leaf.LeafNode.{LeafNode}
@@ -14,15 +14,42 @@ use Rattle.mls_tree_model.specs.Edits.{put, enter, grow, trim}
 use Rattle.mls_tree_model.specs.Merge.{merge}
 use Rattle.mls_tree_model.specs.Laws.{IsIn, HasLists}
 use Rattle.mls_treekem_model.specs.Chain.{path_secrets, node_public, chain_keys}
-use Rattle.mls_treekem_model.specs.Keys.{Keys, Exact, leaf_only, key_in}
-use Rattle.mls_treekem_model.specs.Follow.{Tame, follow, follow_trim, keys_on_way, follow_edit, TameEdits}
-use Rattle.mls_treekem_model.specs.Make.{Climb, filtered_count, climb_make, climb_past, path_keys}
+use Rattle.mls_treekem_model.specs.Keys.{Keys, Exact, leaf_only, key_in, keys_on_way, rest}
+use Rattle.mls_treekem_model.specs.Follow.{follow, follow_trim, follow_edit}
+use Rattle.mls_treekem_model.specs.Make.{Climb, filtered_count, climb_make, climb_past, path_keys, one_if}
 use Rattle.mls_treekem_model.specs.Lists.{ListsBelow}
 use Rattle.mls_treekem_model.specs.Seeds.{seal_seed}
-use Rattle.mls_treekem_model.specs.Seal.{targets, seal_count, IsPathOf, seal_along, targets_fit}
-use Rattle.mls_treekem_model.specs.Open.{climb_open, shared_keys, held_count}
+use Rattle.mls_treekem_model.specs.Seal.{targets, seal_count, IsPathOf, seal_along}
+use Rattle.mls_treekem_model.specs.Open.{climb_open}
 use Rattle.mls_treekem_model.specs.Join.{is_complete, take_keys, take_answer, AllList, secret_for}
 use Rattle.mls_treekem_model.specs.Pairs.{pairs, find_key, IsInOrder}
+use Rattle.mls_treekem_model.specs.Tame.{Tame, TameEdits}
+
+-- a member's keys after a path: the committer's where their ways are one, its own below
+unfoldable pub shared_keys : List Step → ℕ → Keys → Keys → Keys
+shared_keys [] j ms ks = []
+shared_keys (s ∷ ss) j [] ks = []
+shared_keys (s ∷ ss) j (m ∷ ms) ks = m ∷ (if is_beside s j then rest ks else shared_keys ss j ms (rest ks))
+
+-- how many of some nodes have a key
+unfoldable pub held_count : (ℕ → Option (List ℕ)) → List ℕ → ℕ
+held_count keys [] = 0
+held_count keys (d ∷ ds) = one_if (is_some (keys d)) (held_count keys ds)
+
+-- whether a key is there and fit
+abbrev pub has_fit_key : Crypto → Option (List ℕ) → Bool
+has_fit_key c (Some pk) = c.key_ok pk
+has_fit_key c None = false
+
+-- whether the key of each of some nodes is there and fit
+unfoldable pub all_fit : Crypto → ℕ → Term → List ℕ → Bool
+all_fit c b t [] = true
+all_fit c b t (d ∷ ds) = has_fit_key c (key_at b t d) && all_fit c b t ds
+
+-- whether each node that a secret is sealed to has a fit key
+unfoldable pub targets_fit : Crypto → List ℕ → List Step → Bool
+targets_fit c added [] = true
+targets_fit c added (s ∷ ss) = (not (is_filtered s) || all_fit c s.first s.other (targets added s)) && targets_fit c added ss
 
 -- two leaves of a tree
 pub record AreTwo (b : ℕ) (t : Term) (i j : ℕ) : Type 0 where

@@ -1,10 +1,12 @@
 pub mod Chain
 pub mod Keys
 pub mod Follow
+pub mod Tame
 pub mod Height
 pub mod Make
 pub mod Seeds
 pub mod Seal
+pub mod GivenSecrets
 pub mod Open
 pub mod Join
 pub mod Pairs

@@ -1,12 +1,11 @@
--- The secrets and keys of a new path.
+-- A climb from a node to the root, and what a committer has of a new path (RFC 9420, 7.4 and 7.5).
 use Rattle.std.specs.Prelude.{ℕ, suc, Bool, true, false, List, [], ◌∷◌, Option, Some, None, ◌≡◌, ◌≤◌, length, if◌then◌else◌, Result, Ok, Err}
 use Rattle.std.specs.Str.{bytes_eq}
 use Rattle.mls_suite.specs.Crypto.{Crypto}
 use Rattle.mls_tree_model.specs.Way.{Step, is_filtered, way, filtered_path}
 use Rattle.mls_treekem_model.specs.Chain.{next_secret, chain, node_key, node_public}
-use Rattle.mls_treekem_model.specs.Keys.{Keys, PrivateKeys, all_keys}
+use Rattle.mls_treekem_model.specs.Keys.{Keys, PrivateKeys, all_keys, keys_on_way}
 use Rattle.mls_tree_model.specs.Term.{Term, is_perfect}
-use Rattle.mls_treekem_model.specs.Follow.{keys_on_way}
 
 -- A climb goes from a node up to the root, and derives the path secret and the private key of each node on the way (RFC
 -- 9420, 7.4). Where it stands: the path secret of the next node above, and the private keys from there down.
@@ -34,7 +33,7 @@ abbrev pub key_if : Bool → List ℕ → Option (List ℕ)
 key_if true k = Some k
 key_if false k = None
 
--- the committer's private keys, from its leaf's and the first path secret: at each filtered parent that of its path
+-- the committer's private keys, from the first path secret and its leaf's key: at each filtered parent that of its path
 -- secret (RFC 9420, 7.5)
 unfoldable pub made_keys : Crypto → List Step → List ℕ → List ℕ → Keys
 made_keys c [] start sk = Some sk ∷ []

@@ -8,26 +8,20 @@ use Rattle.mls_tree_model.specs.Way.{way, filtered_path, path_length}
 use Rattle.mls_tree_model.specs.Edits.{put}
 use Rattle.mls_tree_model.specs.Merge.{merge_path}
 use Rattle.mls_treekem_model.specs.Make.{climb_to, HasMade, Climb}
-use Rattle.mls_treekem_model.specs.Follow.{TameEdits}
-use Rattle.mls_treekem_model.specs.Height.{as_pairs, ArePairs, HasFollowed, keys_on}
+use Rattle.mls_treekem_model.specs.Height.{as_pairs, ArePairs, HasFollowed}
 use Rattle.mls_treekem_model.specs.Join.{take_answer, has_due, secret_for}
-use Rattle.mls_treekem_model.specs.Keys.{Exact, PrivateKeys, all_keys}
+use Rattle.mls_treekem_model.specs.Keys.{Exact, PrivateKeys, all_keys, keys_on, HasExact}
 use Rattle.mls_treekem_model.specs.Laws.{AreTwo}
 use Rattle.mls_treekem_model.specs.Open.{opened_secret, opened_path}
 use Rattle.mls_treekem_model.specs.Seal.{sealed_path}
 use Rattle.mls_treekem_model.specs.Pairs.{find_key, IsInOrder}
 use Rattle.mls_treekem_model.specs.Lists.{ListsBelow}
-use Rattle.mls_treekem_model.specs.Chain.{chain}
+use Rattle.mls_treekem_model.specs.Chain.{chain, keys_of_path}
 use Rattle.mls_tree_model.specs.Sets.{has}
 use Rattle.mls_tree_model.specs.Places.{key_at}
 use Rattle.mls_tree_model.specs.HeldKeys.{holds_key_of}
 use Rattle.mls_tree_model.specs.Laws.{IsIn}
-use Rattle.mls_treekem_model.specs.Whole.{keys_of_path}
-
--- a member's keys are exact on its way in a whole tree, and none is higher
-pub record HasExact (c : Crypto) (t : Term) (p : PrivateKeys) : Type 0 where
-  pub keys : Exact c 0 t p.leaf (keys_on t p)
-  pub low : length p.above ≤ length (way 0 t p.leaf)
+use Rattle.mls_treekem_model.specs.Tame.{TameEdits}
 
 -- so are keys that are exact as they stand
 abbrev pub ExactWhole : Type 0

@@ -1,5 +1,5 @@
--- What a receiver takes from a path.
-use Rattle.std.specs.Prelude.{ℕ, ◌==◌, if◌then◌else◌, Bool, true, false, List, [], ◌∷◌, length, reverse, codes, Option, Some, None, is_some, Result, Ok, Err}
+-- What a receiver takes from a path (RFC 9420, 7.5 and 7.6).
+use Rattle.std.specs.Prelude.{ℕ, ◌==◌, if◌then◌else◌, Bool, true, false, List, [], ◌∷◌, length, reverse, codes, Option, Some, None, Result, Ok, Err}
 use Rattle.mls_wire.specs.Reading.{◌>>=◌}
 use Rattle.mls_wire.specs.Checks.{require_some}
 use Rattle.mls_types.specs.declared.update_path.HpkeCiphertext.{HpkeCiphertext}
@@ -28,7 +28,8 @@ unseal_secret c context sk x = decrypt_with_label c sk (codes "UpdatePathNode") 
 abbrev pub secret_of : List ℕ → Result (List ℕ) ℕ
 secret_of secret = if length secret == 32 then Ok secret else Err 33
 
--- the path secret in a ciphertext: 32 where it doesn't open, 33 where that isn't 32 bytes (RFC 9420, 7.6)
+-- the path secret in a ciphertext: `OpenFailed` (32) where it doesn't open, `SecretLength` (33) where that isn't 32
+-- bytes (RFC 9420, 7.6)
 abbrev pub secret_in : Crypto → List ℕ → List ℕ → HpkeCiphertext → Result (List ℕ) ℕ
 secret_in c context k x = require_some 32 (unseal_secret c context k x) >>= secret_of
 
@@ -37,7 +38,8 @@ abbrev pub open_with : Crypto → List ℕ → Option (List ℕ) → HpkeCiphert
 open_with c context (Some k) x later = secret_in c context k x
 open_with c context None x later = later
 
--- the path secret in the ciphertext of the first node whose key is held: 32 where none is held (RFC 9420, 7.5)
+-- the path secret in the ciphertext of the first node whose key is held: `OpenFailed` (32) where none is held
+-- (RFC 9420, 7.5)
 unfoldable pub open_first : Crypto → List ℕ → (ℕ → Option (List ℕ)) → List ℕ → List HpkeCiphertext → Result (List ℕ) ℕ
 open_first c context keys [] xs = Err 32
 open_first c context keys (d ∷ ds) [] = Err 32
@@ -52,7 +54,8 @@ first_ciphertexts (n ∷ ns) = n.ciphertexts
 -- and its keys below
 abbrev pub open_at_ancestor : Crypto → List ℕ → List ℕ → Step → ℕ → Keys → List UpdatePathNode → Result Climb ℕ
 open_at_ancestor c context added s j ks ns =
-    open_first c context (key_in s.first s.other j ks) (targets added s) (first_ciphertexts ns) >>= λ secret. Ok (record { secret = secret; keys = ks })
+    open_first c context (key_in s.first s.other j ks) (targets added s) (first_ciphertexts ns)
+    >>= λ secret. Ok (record { secret = secret; keys = ks })
 
 -- the path secret that member j opens there, along the committer's way
 unfoldable pub opened_along : Crypto → List ℕ → List ℕ → List Step → ℕ → Keys → List UpdatePathNode → Result (List ℕ) ℕ
@@ -90,24 +93,12 @@ climb_past_parent c false ns m = Ok (climb_past_blank m)
 unfoldable pub climb_open : Crypto → List ℕ → List ℕ → List Step → ℕ → Keys → List UpdatePathNode → Result Climb ℕ
 climb_open c context added [] j ks ns = Err 32
 climb_open c context added (s ∷ ss) j ks ns =
-    (if is_beside s j then open_at_ancestor c context added s j (rest ks) ns else climb_open c context added ss j (rest ks) (nodes_below (is_filtered s) ns))
+    (if is_beside s j then open_at_ancestor c context added s j (rest ks) ns
+    else climb_open c context added ss j (rest ks) (nodes_below (is_filtered s) ns))
     >>= λ m. climb_past_parent c (is_filtered s) ns m
 
 -- what member j of a whole tree takes of the path of leaf i, whose nodes come the lowest first: the commit secret, and
--- its new keys. 32 where its ciphertext doesn't open, 33 where that isn't 32 bytes, 34 where a derived public key
--- differs (RFC 9420, 7.5)
+-- its new keys. `OpenFailed` (32) where its ciphertext doesn't open, `SecretLength` (33) where that isn't 32 bytes,
+-- `PathKeyMismatch` (34) where a derived public key differs (RFC 9420, 7.5)
 unfoldable pub opened_path : Crypto → List ℕ → List ℕ → Term → ℕ → ℕ → Keys → List UpdatePathNode → Result Climb ℕ
 opened_path c context added t i j ks path = climb_open c context added (way 0 t i) j ks (reverse path)
-
--- ---- what comes of a path that was made
-
--- a member's keys after a path: the committer's where their ways are one, its own below
-unfoldable pub shared_keys : List Step → ℕ → Keys → Keys → Keys
-shared_keys [] j ms ks = []
-shared_keys (s ∷ ss) j [] ks = []
-shared_keys (s ∷ ss) j (m ∷ ms) ks = m ∷ (if is_beside s j then rest ks else shared_keys ss j ms (rest ks))
-
--- how many of some nodes have a key
-unfoldable pub held_count : (ℕ → Option (List ℕ)) → List ℕ → ℕ
-held_count keys [] = 0
-held_count keys (d ∷ ds) = one_if (is_some (keys d)) (held_count keys ds)

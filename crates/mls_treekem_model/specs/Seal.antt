@@ -1,6 +1,5 @@
--- The path that a committer sends: each secret sealed to those who need it.
-use Rattle.std.specs.Prelude.{◌≡◌, ℕ, suc, ◌+◌, not, ◌&&◌, ◌||◌, if◌then◌else◌, Bool, true, false, List, [], ◌∷◌, length, reverse, codes, Option, Some, None, Result}
-use Rattle.std.specs.List.{slice_get}
+-- The path that a committer sends: each secret sealed to those who need it (RFC 9420, 7.6).
+use Rattle.std.specs.Prelude.{◌≡◌, ℕ, suc, ◌+◌, if◌then◌else◌, Bool, true, false, List, [], ◌∷◌, length, reverse, codes, Option, Some, None, Result}
 use Rattle.std.specs.Option.{option_map}
 use Rattle.mls_wire.specs.Checks.{require_some}
 use Rattle.mls_types.specs.declared.update_path.HpkeCiphertext.{HpkeCiphertext}
@@ -14,7 +13,7 @@ use Rattle.mls_tree_model.specs.Places.{key_at}
 use Rattle.mls_tree_model.specs.Way.{Step, way, is_filtered}
 use Rattle.mls_treekem_model.specs.Chain.{node_public}
 use Rattle.mls_treekem_model.specs.Keys.{rest}
-use Rattle.mls_treekem_model.specs.Make.{filtered_count, secret_above}
+use Rattle.mls_treekem_model.specs.Make.{secret_above}
 
 -- the first of two statements where this is so, else the second
 abbrev pub Choose : Bool → Type 0 → Type 0 → Type 0
@@ -39,7 +38,8 @@ ciphertext_of s = record { kem_output = s.kem; ciphertext = s.ct }
 
 -- a path secret sealed to a public key with some randomness, under the context of the group (RFC 9420, 7.6)
 unfoldable pub seal_secret : Crypto → List ℕ → List ℕ → List ℕ → List ℕ → Option HpkeCiphertext
-seal_secret c context secret pk rnd = option_map ciphertext_of (encrypt_with_label c pk (codes "UpdatePathNode") context secret rnd)
+seal_secret c context secret pk rnd =
+    option_map ciphertext_of (encrypt_with_label c pk (codes "UpdatePathNode") context secret rnd)
 
 -- a ciphertext is a path secret sealed to a key that is there
 pub record IsSealedTo (c : Crypto) (context secret : List ℕ) (key : Option (List ℕ)) (x : HpkeCiphertext) : Type 0 where
@@ -105,47 +105,12 @@ seal_along c context added rnd [] start = Some []
 seal_along c context added rnd (s ∷ ss) start =
     let secret : List ℕ = secret_above ss start in
     path_past (is_filtered s)
-    (with_ciphertexts (node_public c secret) (seal_all c context secret s.first s.other rnd (seal_count added ss) (targets added s)))
+    (with_ciphertexts (node_public c secret)
+    (seal_all c context secret s.first s.other rnd (seal_count added ss) (targets added s)))
     (seal_along c context added rnd ss start)
 
 -- the nodes of the path that leaf i of a whole tree sends, the lowest first; `BadKey` (36) where a key is missing or
 -- not fit (RFC 9420, 7.5 and 7.6)
 unfoldable pub sealed_path : Crypto → List ℕ → List ℕ → (ℕ → List ℕ) → Term → ℕ → List ℕ → Result (List UpdatePathNode) ℕ
-sealed_path c context added rnd t i start = require_some 36 (option_map reverse (seal_along c context added rnd (way 0 t i) start))
-
--- ---- the path of any secrets and public keys, the lowest node's first
-
--- a node of a path, where it has a secret and a key; the secret is sealed to the keys of some nodes of a tree
-abbrev pub node_with : Crypto → List ℕ → ℕ → Term → (ℕ → List ℕ) → ℕ → List ℕ → Option (List ℕ) → Option (List ℕ) → Option UpdatePathNode
-node_with c context b t rnd i ds (Some secret) (Some k) = with_ciphertexts k (seal_all c context secret b t rnd i ds)
-node_with c context b t rnd i ds (Some secret) None = None
-node_with c context b t rnd i ds None k = None
-
--- the path along a way, the highest node first; none where a filtered parent has no secret or no key, too
-unfoldable pub seal_path_with : Crypto → List ℕ → List ℕ → (ℕ → List ℕ) → List (List ℕ) → List (List ℕ) → List Step → Option (List UpdatePathNode)
-seal_path_with c context added rnd secrets keys [] = Some []
-seal_path_with c context added rnd secrets keys (s ∷ ss) =
-    path_past (is_filtered s)
-    (node_with c context s.first s.other rnd (seal_count added ss) (targets added s) (slice_get secrets (filtered_count ss)) (slice_get keys (filtered_count ss)))
-    (seal_path_with c context added rnd secrets keys ss)
-
--- the nodes of the path of leaf i of a whole tree, the lowest first; `BadKey` (36) where there is none
-unfoldable pub sealed_path_with : Crypto → List ℕ → List ℕ → (ℕ → List ℕ) → List (List ℕ) → List (List ℕ) → Term → ℕ → Result (List UpdatePathNode) ℕ
-sealed_path_with c context added rnd secrets keys t i = require_some 36 (option_map reverse (seal_path_with c context added rnd secrets keys (way 0 t i)))
-
--- ---- where there is one
-
--- whether a key is there and fit
-abbrev pub is_fit : Crypto → Option (List ℕ) → Bool
-is_fit c (Some pk) = c.key_ok pk
-is_fit c None = false
-
--- whether the key of each of some nodes is there and fit
-unfoldable pub all_fit : Crypto → ℕ → Term → List ℕ → Bool
-all_fit c b t [] = true
-all_fit c b t (d ∷ ds) = is_fit c (key_at b t d) && all_fit c b t ds
-
--- whether each node that a secret is sealed to has a fit key
-unfoldable pub targets_fit : Crypto → List ℕ → List Step → Bool
-targets_fit c added [] = true
-targets_fit c added (s ∷ ss) = (not (is_filtered s) || all_fit c s.first s.other (targets added s)) && targets_fit c added ss
+sealed_path c context added rnd t i start =
+    require_some 36 (option_map reverse (seal_along c context added rnd (way 0 t i) start))

@@ -14,16 +14,17 @@ use Rattle.mls_tree_model.specs.Edits.{place_in, add, update, remove}
 use Rattle.mls_tree_model.specs.Keys.{encryption_keys}
 use Rattle.mls_tree_model.specs.Merge.{merge_path}
 use Rattle.mls_tree_model.specs.Laws.{IsIn, HasLists}
-use Rattle.mls_treekem_model.specs.Chain.{chain, chain_keys, path_secrets, node_public}
+use Rattle.mls_treekem_model.specs.Chain.{chain, chain_keys, path_secrets, node_public, keys_of_path}
 use Rattle.mls_treekem_model.specs.Keys.{Keys, Exact}
-use Rattle.mls_treekem_model.specs.Follow.{TameEdits}
 use Rattle.mls_treekem_model.specs.Make.{Climb, made_keys}
 use Rattle.mls_treekem_model.specs.Lists.{ListsBelow}
-use Rattle.mls_treekem_model.specs.Seal.{targets, seal_secret, sealed_path, sealed_path_with, targets_fit}
+use Rattle.mls_treekem_model.specs.Seal.{targets, seal_secret, sealed_path}
 use Rattle.mls_treekem_model.specs.Seeds.{seal_count_of}
 use Rattle.mls_treekem_model.specs.Open.{opened_secret, filtered_from, opened_path}
-use Rattle.mls_treekem_model.specs.Join.{take_keys, take_answer, AllList, secret_for, secret_among}
-use Rattle.mls_treekem_model.specs.Laws.{AreTwo}
+use Rattle.mls_treekem_model.specs.Join.{take_keys, take_answer, AllList, secret_for}
+use Rattle.mls_treekem_model.specs.Laws.{AreTwo, targets_fit}
+use Rattle.mls_treekem_model.specs.Tame.{TameEdits}
+use Rattle.mls_treekem_model.specs.GivenSecrets.{sealed_path_with, secret_among}
 
 -- ---- edits
 
@@ -46,10 +47,6 @@ AddKeepsListed = (t : Term) (j : ℕ) (x : LeafNode) → IsIn 0 t j → IsSome (
 
 -- ---- paths, whose nodes come the lowest first
 
--- the keys of a path for leaf i
-abbrev pub keys_of_path : Crypto → Term → ℕ → List ℕ → List (List ℕ)
-keys_of_path c t i start = map (node_public c) (path_secrets start (path_length 0 t i))
-
 -- the path that is made has a key for each parent of the filtered direct path
 abbrev pub SealedKeys : Type 0
 SealedKeys = (c : Crypto) (context : List ℕ) (added : List ℕ) (rnd : ℕ → List ℕ) (t : Term) (i : ℕ) (start : List ℕ) (path : List UpdatePathNode) → sealed_path c context added rnd t i start ≡ Ok path → map (λ n. n.encryption_key) path ≡ keys_of_path c t i start
@@ -63,7 +60,7 @@ abbrev pub SealedOfChain : Type 0
 SealedOfChain = (c : Crypto) (context : List ℕ) (added : List ℕ) (rnd : ℕ → List ℕ) (t : Term) (i : ℕ) (start : List ℕ) (n : ℕ) → path_length 0 t i ≤ n →
     sealed_path_with c context added rnd (path_secrets start n) (map (node_public c) (path_secrets start n)) t i ≡ sealed_path c context added rnd t i start
 
--- it is refused with 36 exactly where some key that is sealed to isn't fit
+-- it is refused with `BadKey` (36) exactly where some key that is sealed to isn't fit
 abbrev pub SealedWhereFit : Type 0
 SealedWhereFit = (c : Crypto) → Lawful c → (context : List ℕ) (added : List ℕ) (rnd : ℕ → List ℕ) (t : Term) (i : ℕ) (start : List ℕ) → targets_fit c added (way 0 t i) ≡ true → (path : List UpdatePathNode) × (sealed_path c context added rnd t i start ≡ Ok path)
 
@@ -161,7 +158,7 @@ abbrev pub keys_from : Term → ℕ → ℕ → List UpdatePathNode → List (Li
 keys_from t i j path = take (filtered_from (way 0 t i) j) (map (λ n. n.encryption_key) (reverse path))
 
 -- where a secret was opened, the path is accepted just where those keys are the public keys of the chain from it, and
--- then the commit secret is the chain's end; else 34
+-- then the commit secret is the chain's end; else `PathKeyMismatch` (34)
 pub record IsJudged (c : Crypto) (context added : List ℕ) (t : Term) (i j : ℕ) (ks : Keys) (path : List UpdatePathNode) (secret : List ℕ) : Type 0 where
   pub right : keys_from t i j path ≡ chain_keys c secret (filtered_from (way 0 t i) j) → (m : Climb) × (opened_path c context added t i j ks path ≡ Ok m) × (m.secret ≡ chain secret (filtered_from (way 0 t i) j))
   pub wrong : (keys_from t i j path ≡ chain_keys c secret (filtered_from (way 0 t i) j) → ⊥) → opened_path c context added t i j ks path ≡ Err 34

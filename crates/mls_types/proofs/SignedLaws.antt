@@ -3,14 +3,14 @@ use Rattle.std.proofs.Common.{◌≡◌, ℕ, ◌==◌, Bool, true, false, cond,
 use Rattle.std.specs.Int.{w8}
 use Rattle.mls_wire.specs.Reading.{◌>>=◌, uint_at, opaque_at}
 use Rattle.mls_wire.specs.Format.{Format}
-use Rattle.mls_wire.specs.CombineLaws.{next_read, seen_read}
-use Rattle.mls_wire.specs.Combine.{◌⨾◌, left_format, right_format, make_left, make_right, refused, byte_string, uint64}
+use Rattle.mls_wire.specs.Combine.{◌⨾◌, left_format, right_format, make_left, make_right, no_format, byte_string, uint64}
+use Rattle.mls_wire.specs.CombineReads.{next_read, seen_read}
 use Rattle.mls_leaf.specs.Proposal.{proposal}
 use Rattle.mls_leaf.specs.declared.proposal.Proposal as proposals
 use Rattle.mls_types.specs.Commit.{commit}
 use Rattle.mls_types.specs.Content.{Contents, make_content, sender, content, framed_content}
 use Rattle.mls_types.specs.Signed.{Tail, Tails, make_tail, signed_tail, signed_content}
-use Rattle.mls_types.specs.SignedParts.{signed_with}
+use Rattle.mls_types.specs.SignedParts.{with_signature}
 use Rattle.mls_types.specs.declared.commit.Commit as commits
 use Rattle.mls_types.specs.declared.content.Content as contents
 use Rattle.mls_types.specs.declared.content.Content.TheVariants.{Application, Proposal, Commit}
@@ -57,10 +57,10 @@ abbrev content_from : List ℕ → ℕ → Sender → List ℕ → contents.Cont
 content_from group at by more y = signed_from (framed_of group at by more y.0, y.1)
 
 abbrev tail_body : Bool → Bool → Bool → Format Tails
-tail_body one two three = cond one (left_format (byte_string ⨾ byte_string)) (right_format (cond two (left_format (proposal ⨾ byte_string)) (right_format (cond three (left_format (commit ⨾ byte_string ⨾ byte_string)) (right_format (refused 7))))))
+tail_body one two three = cond one (left_format (byte_string ⨾ byte_string)) (right_format (cond two (left_format (proposal ⨾ byte_string)) (right_format (cond three (left_format (commit ⨾ byte_string ⨾ byte_string)) (right_format (no_format 7))))))
 
 abbrev content_body : Bool → Bool → Bool → Format Contents
-content_body one two three = cond one (left_format byte_string) (right_format (cond two (left_format proposal) (right_format (cond three (left_format commit) (right_format (refused 7))))))
+content_body one two three = cond one (left_format byte_string) (right_format (cond two (left_format proposal) (right_format (cond three (left_format commit) (right_format (no_format 7))))))
 
 abbrev Alike : List ℕ → ℕ → Sender → List ℕ → Result (Tails × List ℕ) ℕ → Result (Contents × List ℕ) ℕ → Type 0
 Alike group at by more tail said = ((tail >>= seen_read make_tail) >>= signed_tail_from group at by more) ≡ ((said >>= seen_read make_content) >>= content_from group at by more)
@@ -79,7 +79,7 @@ abbrev both_tags : Result (List ℕ × List ℕ) ℕ → Auth
 both_tags r = r >>= λ x. with_tag x.0 (opaque_at x.1)
 
 abbrev signed_as : contents.Content → List ℕ → ℕ → Sender → List ℕ → Auth → Result (SignedContent × List ℕ) ℕ
-signed_as said group at by more r = r >>= λ y. Ok (signed_with (framed_of group at by more said) y.0.0 y.0.1, y.1)
+signed_as said group at by more r = r >>= λ y. Ok (with_signature (framed_of group at by more said) y.0.0 y.0.1, y.1)
 
 text_rest : (group : List ℕ) (at : ℕ) (by : Sender) (more text : List ℕ) (r : Result (List ℕ × List ℕ) ℕ)
     → ((((r >>= λ y. Ok ((text, y.0), y.1)) >>= seen_read make_left) >>= seen_read make_tail) >>= signed_tail_from group at by more) ≡ signed_as (Application text) group at by more (alone r)

@@ -2,8 +2,8 @@
 use Rattle.std.specs.Prelude.{◌≡◌, ℕ, List, refl}
 use Rattle.std.proofs.Common.{◌⊎◌, inl, inr}
 use Rattle.mls_wire.specs.Format.{Format}
-use Rattle.mls_wire.specs.CombineLaws.{IsNonempty}
-use Rattle.mls_wire.specs.Combine.{◌⨾◌, seen, case, others, by_uint8, byte_string, uint32, uint64}
+use Rattle.mls_wire.specs.Combine.{◌⨾◌, image, case, others, by_uint8, byte_string, uint32, uint64}
+use Rattle.mls_wire.specs.CombineReads.{IsNonempty}
 use Rattle.mls_leaf.specs.Nonempty.{byte_string_nonempty, first_nonempty, by_uint8_nonempty}
 use Rattle.mls_leaf.specs.Proposal.{proposal}
 use Rattle.mls_leaf.specs.declared.proposal.Proposal as proposals
@@ -39,7 +39,7 @@ sender_back (inr x) = absurd x
 
 -- uint8 type, then 1 (member): uint32 leaf index; another type is `BadTag` (7)
 unfoldable pub sender : Format Sender
-sender = seen (by_uint8 (case 1 uint32 (others 7))) make_sender sender_parts sender_there (λ x _. sender_back x)
+sender = image (by_uint8 (case 1 uint32 (others 7))) make_sender sender_parts sender_there (λ x _. sender_back x)
 
 pub sender_nonempty : IsNonempty sender
 unfolding sender
@@ -77,7 +77,8 @@ content_back (inr (inr (inr x))) = absurd x
 
 -- uint8 content type, then 1: application data<V>; 2: Proposal; 3: Commit; another type is `BadTag` (7)
 unfoldable pub content : Format contents.Content
-content = seen (by_uint8 (case 1 byte_string (case 2 proposal (case 3 commit (others 7))))) make_content content_parts content_there (λ x _. content_back x)
+content = image (by_uint8 (case 1 byte_string (case 2 proposal (case 3 commit (others 7)))))
+    make_content content_parts content_there (λ x _. content_back x)
 
 pub content_nonempty : IsNonempty content
 unfolding content
@@ -87,7 +88,7 @@ content_nonempty v fits = by_uint8_nonempty (case 1 byte_string (case 2 proposal
 
 -- group_id<V>, uint64 epoch, Sender, authenticated_data<V>, the content behind its type
 unfoldable pub framed_content : Format FramedContent
-framed_content = seen (byte_string ⨾ uint64 ⨾ sender ⨾ byte_string ⨾ content)
+framed_content = image (byte_string ⨾ uint64 ⨾ sender ⨾ byte_string ⨾ content)
     (λ x. record { group_id = x.0; epoch = x.1.0; sender = x.1.1.0; authenticated_data = x.1.1.1.0; content = x.1.1.1.1 })
     (λ v. (v.group_id, (v.epoch, (v.sender, (v.authenticated_data, v.content)))))
     (λ v. refl) (λ x _. refl)

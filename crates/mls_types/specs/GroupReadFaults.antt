@@ -4,23 +4,24 @@ use Rattle.std.specs.Int.{w16}
 use Rattle.std.proofs.Common.{lit<}
 use Rattle.mls_wire.specs.Reading.{◌>>=◌, uint_at, opaque_at}
 use Rattle.mls_wire.specs.Format.{Format}
-use Rattle.mls_wire.specs.CombineLaws.{ended}
 use Rattle.mls_wire.specs.ReadFaults.{is_fault, Answered, HasFaults, answered_then, answered_if, uint_answered, opaque_answered, ended_answered, mark_faults, empty_faults, pair_faults, behind_faults, behind_answered, seen_answered, vector_faults, optional_faults, byte_string_faults, nothing_faults, uint16_faults, uint32_faults, uint64_faults}
 use Rattle.mls_leaf.specs.GroupExtensions.{group_extensions_faults}
 use Rattle.mls_leaf.specs.Node.{node}
 use Rattle.mls_leaf.specs.Nonempty.{optional_nonempty}
 use Rattle.mls_leaf.specs.ReadFaults.{leaf_node_faults, node_faults}
 use Rattle.mls_wire.specs.Combine.{optional}
-use Rattle.mls_types.specs.Enclosed.{Whole, entire, at_most_one, alone, one_at, with_rest, all_at}
+use Rattle.mls_wire.specs.CombineReads.{require_end}
+use Rattle.mls_types.specs.Enclosed.{entire, at_most_one}
 use Rattle.mls_types.specs.UpdatePath.{hpke_ciphertext, hpke_ciphertext_nonempty, update_path_node, update_path_node_nonempty, update_path}
 use Rattle.mls_types.specs.GroupContext.{group_context}
 use Rattle.mls_types.specs.GroupInfo.{ratchet_tree, tree_extension, tree_extension_nonempty, group_info_extensions, group_info}
 use Rattle.mls_types.specs.Welcome.{encrypted_group_secrets, encrypted_group_secrets_nonempty, group_secrets, welcome}
+use Rattle.mls_types.specs.EnclosedReads.{Whole, alone, one_at, with_rest, all_at}
 
 -- ---- contents that are inputs of their own
 
 entire_answered : {V : Type 0} (a : Format V) → HasFaults a → (bytes : List ℕ) → Answered ((entire a).read bytes)
-entire_answered a h bytes = answered_then (a.read bytes) ended (h.answers bytes) ended_answered
+entire_answered a h bytes = answered_then (a.read bytes) require_end (h.answers bytes) ended_answered
 
 second_answered : {V : Type 0} (fault : ℕ) → is_fault fault ≡ true → (x : V × List ℕ) → Answered (alone fault x)
 second_answered {V} fault is x =

@@ -3,7 +3,7 @@ use Rattle.std.specs.Prelude.{ℕ, List, Result}
 use Rattle.std.specs.Global.{Vec}
 use Rattle.mls_leaf.specs.Faults.{AddsInput, Writes}
 use Rattle.mls_leaf.specs.declared.error.LeafError.{LeafError}
-use Rattle.mls_types.specs.SignedParts.{framed, auth_data, AuthDataFits}
+use Rattle.mls_types.specs.SignedParts.{framed_content_of, auth_data, AuthDataFits}
 use Rattle.mls_types.specs.Signing.{framed_content_tbs, FramedContentTbsFits, authenticated_content_tbm, AuthenticatedContentTbmFits}
 use Rattle.mls_types.specs.declared.content.FramedContent.{FramedContent}
 use Rattle.mls_types.specs.declared.signed.SignedContent.{SignedContent}
@@ -16,7 +16,7 @@ WritesFramedContentTbs kind said context result = Writes (FramedContentTbsFits k
 
 -- the FramedContentTBS of a signed content (RFC 9420, 6.1), added to a writer
 abbrev pub AddsToSign : WireFormat → SignedContent → GroupContext → List ℕ → Result (Unit {0}) LeafError → List ℕ → Type 0
-AddsToSign kind said context old result new = AddsInput (FramedContentTbsFits kind (framed said) context) (framed_content_tbs kind (framed said) context) old result new
+AddsToSign kind said context old result new = AddsInput (FramedContentTbsFits kind (framed_content_of said) context) (framed_content_tbs kind (framed_content_of said) context) old result new
 
 -- the AuthenticatedContentTBM (RFC 9420, 6.2)
 abbrev pub WritesAuthenticatedContentTbm : WireFormat → SignedContent → GroupContext → Result (Vec ℕ) LeafError → Type 0

@@ -2,8 +2,8 @@
 use Rattle.std.specs.Prelude.{◌≡◌, refl}
 use Rattle.std.proofs.Common.{◌⊎◌, inl, inr}
 use Rattle.mls_wire.specs.Format.{Format}
-use Rattle.mls_wire.specs.CombineLaws.{IsNonempty}
-use Rattle.mls_wire.specs.Combine.{◌⨾◌, seen, nothing, case, others, by_uint16, byte_string}
+use Rattle.mls_wire.specs.Combine.{◌⨾◌, image, nothing, case, others, by_uint16, byte_string}
+use Rattle.mls_wire.specs.CombineReads.{IsNonempty}
 use Rattle.mls_leaf.specs.Nonempty.{first_nonempty, by_uint16_nonempty}
 use Rattle.mls_types.specs.Signed.{signed_content, signed_content_nonempty}
 use Rattle.mls_types.specs.declared.public_message.WireFormat as formats
@@ -47,7 +47,8 @@ wire_format_back (inr (inr (inr (inr x)))) = absurd x
 
 -- uint16: 1 PublicMessage, 3 Welcome, 4 GroupInfo, 5 KeyPackage; another is `BadTag` (7)
 unfoldable pub wire_format : Format formats.WireFormat
-wire_format = seen (by_uint16 (case 1 nothing (case 3 nothing (case 4 nothing (case 5 nothing (others 7)))))) make_wire_format wire_format_parts wire_format_there (λ x _. wire_format_back x)
+wire_format = image (by_uint16 (case 1 nothing (case 3 nothing (case 4 nothing (case 5 nothing (others 7))))))
+    make_wire_format wire_format_parts wire_format_there (λ x _. wire_format_back x)
 
 pub wire_format_nonempty : IsNonempty wire_format
 unfolding wire_format
@@ -57,7 +58,10 @@ wire_format_nonempty v fits = by_uint16_nonempty (case 1 nothing (case 3 nothing
 
 -- FramedContent, FramedContentAuthData, membership_tag<V>
 unfoldable pub public_message : Format messages.PublicMessage
-public_message = seen (signed_content ⨾ byte_string) (λ x. record { content = x.0; membership_tag = x.1 }) (λ v. (v.content, v.membership_tag)) (λ v. refl) (λ x _. refl)
+public_message = image (signed_content ⨾ byte_string)
+    (λ x. record { content = x.0; membership_tag = x.1 })
+    (λ v. (v.content, v.membership_tag))
+    (λ v. refl) (λ x _. refl)
 
 pub public_message_nonempty : IsNonempty public_message
 unfolding public_message
@@ -67,7 +71,10 @@ public_message_nonempty v fits = first_nonempty signed_content byte_string signe
 
 -- uint16 wire_format, FramedContent, FramedContentAuthData
 unfoldable pub authenticated_content : Format AuthenticatedContent
-authenticated_content = seen (wire_format ⨾ signed_content) (λ x. record { wire_format = x.0; content = x.1 }) (λ v. (v.wire_format, v.content)) (λ v. refl) (λ x _. refl)
+authenticated_content = image (wire_format ⨾ signed_content)
+    (λ x. record { wire_format = x.0; content = x.1 })
+    (λ v. (v.wire_format, v.content))
+    (λ v. refl) (λ x _. refl)
 
 pub authenticated_content_nonempty : IsNonempty authenticated_content
 unfolding authenticated_content

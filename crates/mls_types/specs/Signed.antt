@@ -1,10 +1,11 @@
 -- The format of signed contents: a framed content and its FramedContentAuthData (RFC 9420, 6 and 6.1).
--- There is a confirmation tag only where the content is a commit: so the cases go over all fields from the content's type on.
+-- There is a confirmation tag only where the content is a commit: so the cases go over all fields from the content's
+-- type on.
 use Rattle.std.specs.Prelude.{◌≡◌, ℕ, List, refl}
 use Rattle.std.proofs.Common.{◌⊎◌, inl, inr}
 use Rattle.mls_wire.specs.Format.{Format}
-use Rattle.mls_wire.specs.CombineLaws.{IsNonempty}
-use Rattle.mls_wire.specs.Combine.{◌⨾◌, seen, case, others, by_uint8, byte_string, uint64}
+use Rattle.mls_wire.specs.Combine.{◌⨾◌, image, case, others, by_uint8, byte_string, uint64}
+use Rattle.mls_wire.specs.CombineReads.{IsNonempty}
 use Rattle.mls_leaf.specs.Nonempty.{byte_string_nonempty, first_nonempty}
 use Rattle.mls_leaf.specs.Proposal.{proposal}
 use Rattle.mls_leaf.specs.declared.proposal.Proposal as proposals
@@ -42,6 +43,7 @@ tail_of (Commit made tag) signature = inr (inr (inl (made, (signature, tag))))
 abbrev pub tail_parts : Tail → Tails
 tail_parts v = tail_of v.0 v.1
 
+-- what is said and the signature, as one value
 abbrev tail_at : SignedBody → List ℕ → Tail
 tail_at body signature = (body, signature)
 
@@ -62,12 +64,15 @@ tail_back (inr (inr (inr x))) = absurd x
 -- (RFC 9420, 6 and 6.1) uint8 content type, then 1: application data<V>, signature<V>; 2: Proposal, signature<V>;
 -- 3: Commit, signature<V>, confirmation_tag<V>; another type is `BadTag` (7)
 unfoldable pub signed_tail : Format Tail
-signed_tail = seen (by_uint8 (case 1 (byte_string ⨾ byte_string) (case 2 (proposal ⨾ byte_string) (case 3 (commit ⨾ byte_string ⨾ byte_string) (others 7))))) make_tail tail_parts tail_there (λ x _. tail_back x)
+signed_tail = image
+    (by_uint8 (case 1 (byte_string ⨾ byte_string) (case 2 (proposal ⨾ byte_string)
+    (case 3 (commit ⨾ byte_string ⨾ byte_string) (others 7)))))
+    make_tail tail_parts tail_there (λ x _. tail_back x)
 
 -- FramedContent, FramedContentAuthData (RFC 9420, 6 and 6.1): group_id<V>, uint64 epoch, Sender, authenticated_data<V>,
 -- then the content from its type on
 unfoldable pub signed_content : Format SignedContent
-signed_content = seen (byte_string ⨾ uint64 ⨾ sender ⨾ byte_string ⨾ signed_tail)
+signed_content = image (byte_string ⨾ uint64 ⨾ sender ⨾ byte_string ⨾ signed_tail)
     (λ x. record { group_id = x.0; epoch = x.1.0; sender = x.1.1.0; authenticated_data = x.1.1.1.0; body = x.1.1.1.1.0; signature = x.1.1.1.1.1 })
     (λ v. (v.group_id, (v.epoch, (v.sender, (v.authenticated_data, (v.body, v.signature))))))
     (λ v. refl) (λ x _. refl)

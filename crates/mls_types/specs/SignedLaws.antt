@@ -3,7 +3,7 @@ use Rattle.std.specs.Prelude.{◌≡◌, ℕ, List, [], ◌++◌, Result, Ok}
 use Rattle.mls_wire.specs.Reading.{◌>>=◌, opaque_at}
 use Rattle.mls_types.specs.Content.{framed_content}
 use Rattle.mls_types.specs.Signed.{signed_content}
-use Rattle.mls_types.specs.SignedParts.{framed, auth_data, signed_with}
+use Rattle.mls_types.specs.SignedParts.{framed_content_of, auth_data, with_signature}
 use Rattle.mls_types.specs.declared.content.Content as contents
 use Rattle.mls_types.specs.declared.content.Content.TheVariants.{Application, Proposal, Commit}
 use Rattle.mls_types.specs.declared.content.FramedContent.{FramedContent}
@@ -17,11 +17,11 @@ auth_at (Commit made) bytes = opaque_at bytes >>= λ x. opaque_at x.1 >>= λ y. 
 
 -- the signed content of a FramedContent and the FramedContentAuthData behind it
 abbrev pub signed_from : FramedContent × List ℕ → Result (SignedContent × List ℕ) ℕ
-signed_from x = auth_at x.0.content x.1 >>= λ y. Ok (signed_with x.0 y.0.0 y.0.1, y.1)
+signed_from x = auth_at x.0.content x.1 >>= λ y. Ok (with_signature x.0 y.0.0 y.0.1, y.1)
 
 -- A signed content is spelled as its FramedContent, and then its FramedContentAuthData (RFC 9420, 6 and 6.1).
 abbrev pub SignedContentIsSpelled : Type 0
-SignedContentIsSpelled = (v : SignedContent) → signed_content.spell v ≡ framed_content.spell (framed v) ++ auth_data v
+SignedContentIsSpelled = (v : SignedContent) → signed_content.spell v ≡ framed_content.spell (framed_content_of v) ++ auth_data v
 
 -- It is read as a FramedContent, and then the FramedContentAuthData behind it; the first fault is theirs.
 abbrev pub SignedContentIsRead : Type 0
@@ -29,4 +29,4 @@ SignedContentIsRead = (bytes : List ℕ) → signed_content.read bytes ≡ (fram
 
 -- Signing a content leaves the content.
 abbrev pub SigningLeavesContent : Type 0
-SigningLeavesContent = (v : FramedContent) (signature tag : List ℕ) → framed (signed_with v signature tag) ≡ v
+SigningLeavesContent = (v : FramedContent) (signature tag : List ℕ) → framed_content_of (with_signature v signature tag) ≡ v

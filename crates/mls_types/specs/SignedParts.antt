@@ -18,8 +18,14 @@ content_of_body (Proposal made) = says.Proposal made
 content_of_body (Commit made tag) = says.Commit made
 
 -- the FramedContent of a signed content (RFC 9420, 6)
-abbrev pub framed : SignedContent → FramedContent
-framed v = record { group_id = v.group_id; epoch = v.epoch; sender = v.sender; authenticated_data = v.authenticated_data; content = content_of_body v.body }
+abbrev pub framed_content_of : SignedContent → FramedContent
+framed_content_of v = record {
+  group_id = v.group_id;
+  epoch = v.epoch;
+  sender = v.sender;
+  authenticated_data = v.authenticated_data;
+  content = content_of_body v.body;
+}
 
 -- for a commit confirmation_tag<V>, else nothing
 abbrev pub tag_spelling : SignedBody → List ℕ
@@ -44,11 +50,18 @@ AuthDataFits v = (length v.signature < 2 ^ 30) × TagFits v.body
 -- ---- to a signed content
 
 -- what is said, where a commit comes with this tag
-abbrev pub tagged_body : contents.Content → List ℕ → SignedBody
-tagged_body (says.Application text) tag = Application text
-tagged_body (says.Proposal made) tag = Proposal made
-tagged_body (says.Commit made) tag = Commit made tag
+abbrev pub body_with_tag : contents.Content → List ℕ → SignedBody
+body_with_tag (says.Application text) tag = Application text
+body_with_tag (says.Proposal made) tag = Proposal made
+body_with_tag (says.Commit made) tag = Commit made tag
 
 -- the content with this signature, and if it is a commit with this confirmation tag
-abbrev pub signed_with : FramedContent → List ℕ → List ℕ → SignedContent
-signed_with v signature tag = record { group_id = v.group_id; epoch = v.epoch; sender = v.sender; authenticated_data = v.authenticated_data; body = tagged_body v.content tag; signature = signature }
+abbrev pub with_signature : FramedContent → List ℕ → List ℕ → SignedContent
+with_signature v signature tag = record {
+  group_id = v.group_id;
+  epoch = v.epoch;
+  sender = v.sender;
+  authenticated_data = v.authenticated_data;
+  body = body_with_tag v.content tag;
+  signature = signature;
+}

@@ -126,11 +126,11 @@ impl SignedContent {
     ghost use Rattle.mls_leaf.specs.Faults.{AddsSpelling, Encodes};
     ghost use Rattle.mls_types.specs.Content.{framed_content};
     ghost use Rattle.mls_types.specs.InputCalls.{AddsAuthData};
-    ghost use Rattle.mls_types.specs.SignedParts.{framed, signed_with};
+    ghost use Rattle.mls_types.specs.SignedParts.{framed_content_of, with_signature};
 
     /// The content with this signature. A commit gets the confirmation tag too, and other contents leave it.
     pub fn new(content: FramedContent, signature: Bytes, confirmation_tag: Bytes) -> SignedContent
-        ensures { result ≡ signed_with content signature confirmation_tag }
+        ensures { result ≡ with_signature content signature confirmation_tag }
     {
         let FramedContent {
             group_id,
@@ -160,7 +160,7 @@ impl SignedContent {
     /// The spelling of its FramedContent.
     #[tactic(auto, using(mls_leaf::proofs::Codecs::codecs))]
     pub fn encode_framed_content(&self, alloc: Global) -> Result<Vec<u8>, LeafError>
-        ensures { Encodes framed_content (framed self.now) result }
+        ensures { Encodes framed_content (framed_content_of self.now) result }
     {
         let mut writer = Writer::new(alloc);
         self.add_framed_content(alloc, &mut writer)?;
@@ -174,7 +174,8 @@ impl SignedContent {
         alloc: Global,
         writer: &mut Writer,
     ) -> Result<(), LeafError>
-        ensures { AddsSpelling framed_content (framed self.now) writer.old result writer.new }
+        ensures { AddsSpelling framed_content (framed_content_of self.now) writer.old result
+            writer.new }
     {
         self.group_id.write(alloc, writer)?;
         self.epoch.write(alloc, writer)?;

@@ -32,7 +32,7 @@ impl FramedContent {
 }
 
 impl SignedContent {
-    ghost use Rattle.mls_types.specs.SignedParts.{framed};
+    ghost use Rattle.mls_types.specs.SignedParts.{framed_content_of};
     ghost use Rattle.mls_types.specs.InputCalls.{WritesFramedContentTbs, WritesAuthenticatedContentTbm, AddsToSign};
 
     /// The FramedContentTBS, which the sender signed (RFC 9420, 6.1).
@@ -44,7 +44,8 @@ impl SignedContent {
         wire_format: WireFormat,
         group_context: &GroupContext,
     ) -> Result<Vec<u8>, LeafError>
-        ensures { WritesFramedContentTbs wire_format (framed self.now) group_context.now result }
+        ensures { WritesFramedContentTbs wire_format (framed_content_of self.now) group_context.now
+            result }
     {
         let mut writer = Writer::new(alloc);
         self.add_to_be_signed(wire_format, group_context, alloc, &mut writer)?;

@@ -3,23 +3,22 @@ use Rattle.std.proofs.Common.{◌≡◌, ℕ, suc, ◌^◌, ◌<◌, ◌≤◌, 
 use Rattle.std.proofs.lemmas.Bool.{cases_lt}
 use Rattle.std.proofs.lemmas.List.{length-reverse, length-map}
 use Rattle.std.proofs.Math.Pow.{pow_mono}
-use Rattle.mls_wire.proofs.CheckLaws.{bind_ok, then_ok}
+use Rattle.mls_wire.proofs.CheckLaws.{bind_ok}
 use Rattle.mls_leaf.specs.Parent.{Parent}
 use Rattle.mls_leaf.specs.declared.leaf.LeafNode.{LeafNode}
 use Rattle.mls_suite.specs.Crypto.{Crypto}
 use Rattle.mls_tree_model.specs.Term.{Term, width, height, leaf_at}
 use Rattle.mls_tree_model.specs.Way.{Step, way, filtered_way, filtered_path, path_length}
-use Rattle.mls_tree_model.specs.Merge.{merge_path, path_parent_hash}
+use Rattle.mls_tree_model.specs.Merge.{merge_path}
 use Rattle.mls_tree.specs.Tree.{Tree, term, member_at, path_answer}
-use Rattle.mls_tree.specs.Paths.{path_checks, path_hash_answer}
 use Rattle.mls_tree.proofs.Perfect.{perfect, width_is}
-use Rattle.mls_treekem_model.specs.Follow.{key_above, keys_on_way, follow_edit}
-use Rattle.mls_treekem_model.specs.Height.{keys_on, HasFollowed}
-use Rattle.mls_treekem_model.specs.Keys.{Keys, PrivateKeys, all_keys, AreKeysAlong, Fits, Exact}
+use Rattle.mls_treekem_model.specs.Follow.{follow_edit}
+use Rattle.mls_treekem_model.specs.Height.{HasFollowed}
+use Rattle.mls_treekem_model.specs.Keys.{Keys, PrivateKeys, all_keys, AreKeysAlong, HoldsDueKey, Exact, key_above, keys_on_way, keys_on}
 use Rattle.mls_treekem_model.specs.Make.{made_keys, HasMade}
 use Rattle.mls_treekem_model.proofs.MemberLaws.{keys_merged}
-use Rattle.mls_treekem_model.specs.Whole.{keys_of_path}
 use Rattle.mls_treekem_model.proofs.WholeLaws.{made_exact}
+use Rattle.mls_treekem_model.specs.Chain.{keys_of_path}
 use Rattle.mls_treekem.specs.Secrets.{AreOfChain}
 use Rattle.mls_treekem.specs.declared.secrets.PathSecrets.{PathSecrets}
 
@@ -68,20 +67,14 @@ module _ (c : Crypto) (t : Tree) (i : ℕ) (start start' : List ℕ) (xs ys : Li
       ∙ ap (λ j. made_keys c (way 0 (term t) j) start' old.own) at
       ∙ ap₂ (made_keys c (way 0 (term t) i)) begins sk_is
 
--- ---- the parent hash
-
-pub hash_is : (t : Term) (i : ℕ) (keys : List (List ℕ)) (h : List ℕ) → path_hash_answer t i keys ≡ Ok h → h ≡ path_parent_hash t i keys
-unfolding path_hash_answer
-hash_is t i keys h e = let s = then_ok (path_checks t i (length keys)) (Ok (path_parent_hash t i keys)) h e in let f = s.1 in cc
-
 -- ---- keys that are followed onto the tree with the path
 
-fit_stays : (c : Crypto) (j : ℕ) (p : Option Parent) (o : Option (List ℕ)) → Fits c j p o → (if is_some p then o else None) ≡ o
+fit_stays : (c : Crypto) (j : ℕ) (p : Option Parent) (o : Option (List ℕ)) → HoldsDueKey c j p o → (if is_some p then o else None) ≡ o
 fit_stays c j None None h = refl
 fit_stays c j None (Some k) h = absurd h
 fit_stays c j (Some p) o h = refl
 
-follow_stays : (c : Crypto) (j : ℕ) (ss : List Step) (x : Option LeafNode) (ks : Keys) → AreKeysAlong c (Fits c j) ss x (keys_on_way ss ks) → follow_edit None ss ks ≡ keys_on_way ss ks
+follow_stays : (c : Crypto) (j : ℕ) (ss : List Step) (x : Option LeafNode) (ks : Keys) → AreKeysAlong c (HoldsDueKey c j) ss x (keys_on_way ss ks) → follow_edit None ss ks ≡ keys_on_way ss ks
 unfolding follow_edit keys_on_way AreKeysAlong
 follow_stays c j [] x ks h = refl
 follow_stays c j (s ∷ ss) x ks h = ap₂ (λ o zs. o ∷ zs) (fit_stays c j s.parent (key_above (suc (length ss)) ks) h.0) (follow_stays c j ss x ks h.1)

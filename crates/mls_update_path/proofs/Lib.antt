@@ -4,3 +4,4 @@ pub mod Leaves
 pub mod Seals
 pub mod OtherExtensions
 pub mod Outcomes
+pub mod OwnLeaves

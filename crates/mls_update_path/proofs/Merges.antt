@@ -5,15 +5,15 @@ use Rattle.mls_wire.proofs.CheckLaws.{then_ok}
 use Rattle.mls_leaf.specs.declared.leaf.LeafNode.{LeafNode}
 use Rattle.mls_leaf.specs.declared.leaf.LeafSource.TheVariants as leaf_node_source
 use Rattle.mls_suite.specs.Crypto.{Crypto}
-use Rattle.mls_checks.specs.Checks.{replaced_checks}
-use Rattle.mls_checks.specs.declared.checks.Source.TheVariants as replaced_for
+use Rattle.mls_checks.specs.Checks.{replacement_checks}
+use Rattle.mls_checks.specs.declared.checks.LeafUse.TheVariants as replaced_for
 use Rattle.mls_tree_model.specs.Term.{Term, leaf_of}
 use Rattle.mls_tree_model.specs.Way.{path_length}
 use Rattle.mls_tree_model.specs.Merge.{merge_path, path_parent_hash}
 use Rattle.mls_tree_model.proofs.LengthLaws.{none_or_long}
 use Rattle.mls_tree.specs.Paths.{merge_checks, merge_answer}
 use Rattle.mls_treekem_model.specs.Seeds.{path_seed}
-use Rattle.mls_treekem_model.specs.Whole.{keys_of_path}
+use Rattle.mls_treekem_model.specs.Chain.{keys_of_path}
 use Rattle.mls_treekem.specs.Secrets.{AreOfChain, public_keys}
 use Rattle.mls_treekem.specs.declared.secrets.PathSecrets.{PathSecrets}
 use Rattle.mls_model.specs.PublicState.{PublicState}
@@ -56,20 +56,20 @@ hash_of c t u i seed m keys slice hash copied chained are same is =
 -- ---- the chain of checks
 
 module _ (c : Crypto) (p : PublicState) (signing : List ℕ) (i : ℕ) (t : Term) (seed : List ℕ) (old leaf : LeafNode) (at : leaf_of p.tree i ≡ Some old) (is : leaf ≡ leaf_with c signing p.context.group_id i t old seed) where
-  check_is : (r : Result Passed ℕ) → replaced_checks c leaf old replaced_for.Commit p.context.group_id i ≡ r → replaced_checks c (leaf_with c signing p.context.group_id i t old seed) old replaced_for.Commit p.context.group_id i ≡ r
-  check_is r e = ap (λ l. replaced_checks c l old replaced_for.Commit p.context.group_id i) (sym is) ∙ e
+  check_is : (r : Result Passed ℕ) → replacement_checks c leaf old replaced_for.Commit p.context.group_id i ≡ r → replacement_checks c (leaf_with c signing p.context.group_id i t old seed) old replaced_for.Commit p.context.group_id i ≡ r
+  check_is r e = ap (λ l. replacement_checks c l old replaced_for.Commit p.context.group_id i) (sym is) ∙ e
 
   merge_with : (r : Result Term ℕ) → merge_answer t i leaf (path_public_keys c i t seed) ≡ r → merge_answer t i (leaf_with c signing p.context.group_id i t old seed) (path_public_keys c i t seed) ≡ r
   merge_with r e = ap (λ l. merge_answer t i l (path_public_keys c i t seed)) (sym is) ∙ e
 
-  pub leaf_fails : (n : ℕ) → replaced_checks c leaf old replaced_for.Commit p.context.group_id i ≡ Err n → leaf_and_tree_of c p signing i t seed ≡ Err n
+  pub leaf_fails : (n : ℕ) → replacement_checks c leaf old replaced_for.Commit p.context.group_id i ≡ Err n → leaf_and_tree_of c p signing i t seed ≡ Err n
   unfolding leaf_and_tree_of
   leaf_fails n e = rw (at, check_is (Err n) e) refl
 
-  pub merge_fails : (n : ℕ) → replaced_checks c leaf old replaced_for.Commit p.context.group_id i ≡ Ok passed → merge_answer t i leaf (path_public_keys c i t seed) ≡ Err n → leaf_and_tree_of c p signing i t seed ≡ Err n
+  pub merge_fails : (n : ℕ) → replacement_checks c leaf old replaced_for.Commit p.context.group_id i ≡ Ok passed → merge_answer t i leaf (path_public_keys c i t seed) ≡ Err n → leaf_and_tree_of c p signing i t seed ≡ Err n
   unfolding leaf_and_tree_of
   merge_fails n e f = rw (at, check_is (Ok passed) e, merge_with (Err n) f) refl
 
-  pub merges : (u : Term) → replaced_checks c leaf old replaced_for.Commit p.context.group_id i ≡ Ok passed → merge_answer t i leaf (path_public_keys c i t seed) ≡ Ok u → leaf_and_tree_of c p signing i t seed ≡ Ok (leaf, u)
+  pub merges : (u : Term) → replacement_checks c leaf old replaced_for.Commit p.context.group_id i ≡ Ok passed → merge_answer t i leaf (path_public_keys c i t seed) ≡ Ok u → leaf_and_tree_of c p signing i t seed ≡ Ok (leaf, u)
   unfolding leaf_and_tree_of
   merges u e f = rw (at, check_is (Ok passed) e, merge_with (Ok u) f) (ap (λ l. Ok (l, u)) (sym is))

@@ -11,9 +11,10 @@ use Rattle.mls_suite.specs.Crypto.{Crypto, Lawful}
 use Rattle.mls_tree_model.specs.Term.{Term}
 use Rattle.mls_tree_model.specs.Way.{way}
 use Rattle.mls_treekem_model.specs.Make.{Climb, climb_make}
-use Rattle.mls_treekem_model.specs.Seal.{targets_fit, sealed_path}
+use Rattle.mls_treekem_model.specs.Seal.{sealed_path}
 use Rattle.mls_treekem_model.specs.Seeds.{path_seed, seal_seed}
 use Rattle.mls_treekem_model.proofs.WholeLaws.{sealed_where_fit, refused_where_unfit}
+use Rattle.mls_treekem_model.specs.Laws.{targets_fit}
 use Rattle.mls_model.specs.Candidate.{leaf_key_of}
 use Rattle.mls_model.specs.Commit.{Edits, apply_path_if}
 use Rattle.mls_model.specs.Make.{MadePath, new_path}

@@ -5,13 +5,13 @@ use Rattle.mls_wire.specs.Checks.{Answers, passed}
 use Rattle.mls_leaf.specs.Leaf.{leaf_node}
 use Rattle.mls_leaf.specs.declared.leaf.LeafNode.{LeafNode}
 use Rattle.mls_suite.specs.Crypto.{Crypto}
-use Rattle.mls_checks.specs.Checks.{replaced_checks}
-use Rattle.mls_checks.specs.declared.checks.Source.TheVariants as replaced_for
+use Rattle.mls_checks.specs.Checks.{replacement_checks}
+use Rattle.mls_checks.specs.declared.checks.LeafUse.TheVariants as replaced_for
 use Rattle.mls_tree_model.specs.Term.{Term, leaf_of}
 use Rattle.mls_tree_model.specs.Way.{way}
 use Rattle.mls_tree.specs.Paths.{merge_answer}
-use Rattle.mls_treekem_model.specs.Keys.{PrivateKeys, all_keys}
-use Rattle.mls_treekem_model.specs.Height.{HasFollowed, keys_on}
+use Rattle.mls_treekem_model.specs.Keys.{PrivateKeys, all_keys, keys_on}
+use Rattle.mls_treekem_model.specs.Height.{HasFollowed}
 use Rattle.mls_treekem_model.specs.Make.{made_keys}
 use Rattle.mls_treekem_model.specs.Seeds.{path_seed}
 use Rattle.mls_public_group.specs.Short.{IsBelow, HasLeavesBelow}
@@ -24,7 +24,7 @@ use Rattle.mls_update_path.proofs.Merges.{merge_is, merge_fails, merges}
 
 -- a result has these parts: a leaf, a tree, private keys; an error has a number
 module _ {B E : Type 0} (leaf_in : B → LeafNode) (tree_in : B → Term) (keys_in : B → PrivateKeys) (number : E → ℕ) (c : Crypto) (p : PublicState) (signing : List ℕ) (i : ℕ) (t : Term) (seed : List ℕ) (leaf : LeafNode) (d : Result Term ℕ) (is : d ≡ merge_answer t i leaf (path_public_keys c i t seed)) where
-  pub answers : (old : LeafNode) (r : Result B E) → leaf_of p.tree i ≡ Some old → leaf ≡ leaf_with c signing p.context.group_id i t old seed → replaced_checks c leaf old replaced_for.Commit p.context.group_id i ≡ Ok passed
+  pub answers : (old : LeafNode) (r : Result B E) → leaf_of p.tree i ≡ Some old → leaf ≡ leaf_with c signing p.context.group_id i t old seed → replacement_checks c leaf old replaced_for.Commit p.context.group_id i ≡ Ok passed
       → Answers tree_in number d r → IfOk r (λ x. leaf_in x ≡ leaf) → Answers (λ x. (leaf_in x, tree_in x)) number (leaf_and_tree_of c p signing i t seed) r
   answers old (Ok x) at made checked merged same =
       merges c p signing i t seed old leaf at made (tree_in x) checked (sym is ∙ merged) ∙ ap (λ l. Ok (l, tree_in x)) (sym same)

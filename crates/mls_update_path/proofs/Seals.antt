@@ -12,19 +12,18 @@ use Rattle.mls_leaf.specs.declared.leaf.LeafNode.{LeafNode}
 use Rattle.mls_types.specs.declared.update_path.UpdatePath.{UpdatePath}
 use Rattle.mls_types.specs.declared.update_path.UpdatePathNode.{UpdatePathNode}
 use Rattle.mls_suite.specs.Crypto.{Crypto, Lawful}
-use Rattle.mls_checks.specs.Checks.{replaced_checks}
-use Rattle.mls_checks.specs.declared.checks.Source.TheVariants as replaced_for
+use Rattle.mls_checks.specs.Checks.{replacement_checks}
+use Rattle.mls_checks.specs.declared.checks.LeafUse.TheVariants as replaced_for
 use Rattle.mls_tree_model.specs.Term.{Term}
 use Rattle.mls_tree_model.specs.Way.{way, path_length, ciphertext_counts}
 use Rattle.mls_tree.specs.Tree.{member_at}
 use Rattle.mls_tree.specs.Paths.{merge_answer}
-use Rattle.mls_treekem_model.specs.Chain.{chain, path_secrets, node_public}
+use Rattle.mls_treekem_model.specs.Chain.{chain, path_secrets, node_public, keys_of_path}
 use Rattle.mls_treekem_model.specs.Keys.{Keys}
 use Rattle.mls_treekem_model.specs.Make.{Climb, climb_make, made_keys}
 use Rattle.mls_treekem_model.proofs.MakeLaws.{count_is_length}
 use Rattle.mls_treekem_model.specs.Seal.{targets, sealed_path}
 use Rattle.mls_treekem_model.specs.Seeds.{path_seed, seal_seed}
-use Rattle.mls_treekem_model.specs.Whole.{keys_of_path}
 use Rattle.mls_treekem_model.proofs.WholeLaws.{sealed_keys, sealed_lengths}
 use Rattle.mls_treekem.specs.Secrets.{AreOfChain}
 use Rattle.mls_treekem.specs.declared.secrets.PathSecrets.{PathSecrets}
@@ -64,7 +63,7 @@ pub by_parts : (c : Crypto) (m : Member) (list : List Extension) (e : Edits) (se
 unfolding new_path path_of leaf_and_tree_of committed_leaf leaf_with
 by_parts c m list e seed =
     let r = member_at m.public.tree m.keys.leaf in
-    let check = λ (old : LeafNode). replaced_checks c (leaf_of_member c m e seed old) old replaced_for.Commit m.public.context.group_id m.keys.leaf in
+    let check = λ (old : LeafNode). replacement_checks c (leaf_of_member c m e seed old) old replaced_for.Commit m.public.context.group_id m.keys.leaf in
     let merge = λ (old : LeafNode). merge_answer e.tree m.keys.leaf (leaf_of_member c m e seed old) (path_public_keys c m.keys.leaf e.tree seed) in
     let pair = λ (old : LeafNode). merge old >>= λ (tree : Term). Ok (leaf_of_member c m e seed old, tree) in
     let last = sealed_with_leaf c m.public m.keys.leaf list e seed in
@@ -116,7 +115,7 @@ record IsMerged (c : Crypto) (p : PublicState) (signing : List ℕ) (i : ℕ) (t
   old : LeafNode
   at : member_at p.tree i ≡ Ok old
   is : x ≡ leaf_with c signing p.context.group_id i t old seed
-  replaced : replaced_checks c x old replaced_for.Commit p.context.group_id i ≡ Ok passed
+  replaced : replacement_checks c x old replaced_for.Commit p.context.group_id i ≡ Ok passed
   merges : merge_answer t i x (path_public_keys c i t seed) ≡ Ok u
 
 abbrev ok_pair : LeafNode × Term → Result (LeafNode × Term) ℕ
@@ -130,14 +129,14 @@ unfolding leaf_and_tree_of
 merged_steps c p signing i t seed x u h =
     let made = λ (old : LeafNode). leaf_with c signing p.context.group_id i t old seed in
     let member = bind_ok (member_at p.tree i) _ (x, u) h in
-    let replaced = then_ok (replaced_checks c (made member.0) member.0 replaced_for.Commit p.context.group_id i) _ (x, u) member.2 in
+    let replaced = then_ok (replacement_checks c (made member.0) member.0 replaced_for.Commit p.context.group_id i) _ (x, u) member.2 in
     let merge = bind_ok (merge_answer t i (made member.0) (path_public_keys c i t seed)) _ (x, u) replaced.1 in
     let same = pairs_are (made member.0) x merge.0 u merge.2 in
     record {
       old = member.0;
       at = member.1;
       is = sym same.0;
-      replaced = subst (λ l. replaced_checks c l member.0 replaced_for.Commit p.context.group_id i ≡ Ok passed) same.0 replaced.0;
+      replaced = subst (λ l. replacement_checks c l member.0 replaced_for.Commit p.context.group_id i ≡ Ok passed) same.0 replaced.0;
       merges = subst (λ l. merge_answer t i l (path_public_keys c i t seed) ≡ Ok u) same.0 (merge.1 ∙ ap Ok same.1);
     }
 
@@ -157,7 +156,7 @@ counts_due : (c : Crypto) (context : List ℕ) (e : Edits) (rnd : ℕ → List �
 unfolding ciphertext_counts targets
 counts_due c context e rnd i start nodes h = sealed_lengths c context e.added rnd e.tree i start nodes h
 
-checks_pass : (c : Crypto) (p : PublicState) (i : ℕ) (e : Edits) (path : UpdatePath) (old : LeafNode) (u : Term) → member_at p.tree i ≡ Ok old → replaced_checks c path.leaf_node old replaced_for.Commit p.context.group_id i ≡ Ok passed
+checks_pass : (c : Crypto) (p : PublicState) (i : ℕ) (e : Edits) (path : UpdatePath) (old : LeafNode) (u : Term) → member_at p.tree i ≡ Ok old → replacement_checks c path.leaf_node old replaced_for.Commit p.context.group_id i ≡ Ok passed
     → (length path.nodes == path_length 0 e.tree i) ≡ true → bytes_eq (cipher_counts path) (due_counts e i) ≡ true → list_all c.key_ok (path.leaf_node.encryption_key ∷ node_keys path) ≡ true → merge_answer e.tree i path.leaf_node (node_keys path) ≡ Ok u
     → apply_update_path c p i e path ≡ Ok u
 unfolding apply_update_path

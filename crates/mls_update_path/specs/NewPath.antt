@@ -15,11 +15,16 @@ use Rattle.mls_update_path.specs.declared.path.NewPath.{NewPath}
 
 -- the path, the commit secret and the committer's keys
 abbrev pub made_path : NewPath → MadePath
-made_path p = record { path = Some p.path; climb = record { secret = p.secrets.commit_secret; keys = all_keys p.keys } }
+made_path p =
+    record {
+      path = Some p.path;
+      climb = record { secret = p.secrets.commit_secret; keys = all_keys p.keys };
+    }
 
 -- The call makes the path of each member with this public state, signature key and leaf, for a commit with these
 -- extensions, or refuses with the number of the first check that fails, memory aside.
-abbrev pub MakesPath : Crypto → PublicState → List ℕ → ℕ → List Extension → Edits → List ℕ → Result NewPath PathError → Type 0
+abbrev pub MakesPath : Crypto → PublicState → List ℕ → ℕ → List Extension → Edits → List ℕ →
+    Result NewPath PathError → Type 0
 MakesPath c p signing i list e seed result =
     (m : Member) → m.public ≡ p → m.signing ≡ signing → m.keys.leaf ≡ i →
     Answers made_path number_of (new_path c m list e seed) result

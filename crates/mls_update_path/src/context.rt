@@ -4,7 +4,7 @@ ghost use Rattle.std.specs.Prelude.{◌≡◌, ◌+◌, ◌<◌, ◌^◌, length
 ghost use Rattle.mls_leaf.specs.GroupExtensions.{group_extensions};
 ghost use Rattle.mls_tree.specs.Tree.{term};
 ghost use Rattle.mls_public_group.specs.Short.{IsBelow, IsShortContext};
-ghost use Rattle.mls_update_path.specs.Parts.{provisional_bytes};
+ghost use Rattle.mls_update_path.specs.Parts.{SpellsProvisional};
 
 use mls_leaf::GroupExtensions;
 use mls_public_group::{context_spelling, provisional_context};
@@ -24,7 +24,7 @@ pub(crate) fn provisional_bytes(
     requires short { IsShortContext old.now }
     requires extensions { IsBelow (2 ^ 27) group_extensions extensions.now }
     requires epoch { old.now.epoch + 1 < 2 ^ 64 }
-    ensures bytes { IfOk result (λ v. v.items ≡ provisional_bytes old.now extensions.now (term tree.old)) }
+    ensures bytes { IfOk result (SpellsProvisional old.now extensions.now (term tree.old)) }
     ensures short { IfOk result (λ v. length v.items < 2 ^ 30) }
     ensures same { term tree.new ≡ term tree.old }
 {

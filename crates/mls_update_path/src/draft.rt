@@ -1,16 +1,16 @@
 //! The secrets and keys of a path.
 
 ghost use Rattle.std.specs.Prelude.{◌≡◌, IfOk};
-ghost use Rattle.mls_tree_model.specs.Merge.{path_parent_hash};
+ghost use Rattle.mls_tree.specs.PathDraft.{IsDraftOf};
 ghost use Rattle.mls_tree.specs.Tree.{term};
 ghost use Rattle.mls_treekem.specs.Secrets.{public_keys};
+ghost use Rattle.mls_model.specs.Candidate.{leaf_key_of};
 ghost use Rattle.mls_update_path.specs.Parts.{IsChain, AreKeysOn};
 
-use mls_candidate::leaf_key;
-use mls_kdf::Seed;
+use mls_kdf::{Secret, Seed};
 use mls_leaf::Bytes;
 use mls_suite::{OutOfMemory, Suite};
-use mls_tree::PublicTree;
+use mls_tree::{PathDraft, PublicTree};
 use mls_treekem::{PathSecrets, PrivatePath, path_seed};
 use std::alloc::{AllocError, Global};
 
@@ -23,14 +23,16 @@ pub(crate) struct Draft {
     pub(crate) keys: PrivatePath,
 }
 
-/// The secrets and keys of a path of leaf `index`, made of a seed (RFC 9420, 7.4 and 7.5). A tree after the edits of a
-/// commit has its committer's leaf, so only memory can be wanting.
+/// The secrets and keys of a path of leaf `index`, made of a seed, as the leaf's own private key was (RFC 9420, 7.4 and
+/// 7.5). A tree after the edits of a commit has its committer's leaf, so only memory can be wanting.
 pub(crate) fn make_draft<S: Suite>(
     alloc: Global,
     tree: &PublicTree,
     index: u32,
     seed: &Seed,
+    leaf_key: &Secret,
 ) -> Result<Draft, OutOfMemory>
+    requires { leaf_key.now ≡ leaf_key_of S.crypto seed.now }
     ensures leaf { IfOk result (λ d. d.keys.leaf ≡ index) }
     ensures chain { IfOk result (λ d. IsChain S.crypto (term tree.now) index seed.now d.secrets) }
     ensures keys { IfOk result (λ d. AreKeysOn S.crypto (term tree.now) index seed.now d.keys) }
@@ -41,7 +43,7 @@ pub(crate) fn make_draft<S: Suite>(
         // Want of memory: edits leave the committer's leaf, so only the list of nodes can fail.
         return Err(AllocError);
     };
-    let mut keys = PrivatePath::new(alloc, index, leaf_key::<S>(alloc, seed)?);
+    let mut keys = PrivatePath::new(alloc, index, *leaf_key);
     let secrets = keys.make_path::<S>(&path_seed(seed), &filtered)?;
     Ok(Draft { secrets, keys })
 }
@@ -57,19 +59,19 @@ pub(crate) fn public_keys(alloc: Global, secrets: &PathSecrets) -> Result<Vec<By
     Ok(keys)
 }
 
-/// The parent hash that the leaf of a path with these keys must have. There is a member, and there are as many keys as
-/// its filtered path has parents, so only memory can be wanting.
-pub(crate) fn parent_hash(
+/// A path with these keys before its leaf is signed. There is a member, and there are as many keys as its filtered path
+/// has parents, so only memory can be wanting.
+pub(crate) fn draft_path(
     tree: &mut PublicTree,
     index: u32,
-    keys: &[Bytes],
-) -> Result<Bytes, OutOfMemory>
-    ensures hash { IfOk result (λ hash. hash ≡ path_parent_hash (term tree.old) index keys.now) }
+    keys: Vec<Bytes>,
+) -> Result<PathDraft, OutOfMemory>
+    ensures draft { IfOk result (IsDraftOf (term tree.old) index keys.items) }
     ensures same { term tree.new ≡ term tree.old }
 {
-    match tree.path_parent_hash(index, keys) {
-        Ok(hash) => Ok(Bytes::from_vec(hash)),
-        // Want of memory: a member is there, and a key for each node; only the bytes can fail.
+    match tree.draft_path(index, keys) {
+        Ok(draft) => Ok(draft),
+        // Want of memory: a member is there, and a key for each node; only the lists can fail.
         Err(_) => Err(AllocError),
     }
 }

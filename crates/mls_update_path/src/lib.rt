@@ -4,6 +4,7 @@
 mod context;
 mod draft;
 mod error;
+mod own_leaf;
 mod path;
 
 pub use error::PathError;

@@ -3,6 +3,8 @@
 ghost use Rattle.std.specs.Prelude.{◌≡◌, ◌+◌, ◌<◌, ◌≤◌, ◌^◌, length, None, IfOk};
 ghost use Rattle.mls_leaf.specs.GroupExtensions.{group_extensions};
 ghost use Rattle.mls_leaf.specs.Leaf.{leaf_node};
+ghost use Rattle.mls_candidate.specs.Leaves.{IsPublicKey};
+ghost use Rattle.mls_tree.specs.PathDraft.{IsDraftFor};
 ghost use Rattle.mls_tree.specs.Tree.{term};
 ghost use Rattle.mls_public_group.specs.Short.{IsBelow, HasLeavesBelow, IsShortContext, StaysShort};
 ghost use Rattle.mls_treekem_model.specs.Height.{HasFollowed};
@@ -10,15 +12,15 @@ ghost use Rattle.mls_update_path.specs.NewPath.{MakesPath, IsValid};
 ghost use Rattle.mls_update_path.specs.Parts.{AreAllKeys, ChecksLeaf, IsChain, MakesLeaf, MergesNewPath, MergesPath};
 
 use crate::context::provisional_bytes;
-use crate::draft::{Draft, make_draft, parent_hash, public_keys};
+use crate::draft::{Draft, draft_path, make_draft, public_keys};
 use crate::error::PathError;
-use mls_candidate::renewed_leaf;
-use mls_checks::{Source, replaced};
+use crate::own_leaf::check_own_leaf;
+use mls_candidate::{leaf_pair, renewed_leaf_with_key};
 use mls_kdf::{Secret, Seed};
 use mls_leaf::{Bytes, GroupExtensions, Items, LeafNode, LeafSource};
 use mls_public_group::{Edits, PublicGroup};
 use mls_suite::Suite;
-use mls_tree::{PublicTree, TreeError};
+use mls_tree::{PathDraft, PublicTree, TreeError};
 use mls_treekem::{PathSecrets, PrivatePath, seal_path};
 use mls_types::UpdatePath;
 use std::alloc::Global;
@@ -45,7 +47,8 @@ struct Merged {
     keys: PrivatePath,
 }
 
-/// The new leaf of the member at leaf `index`, with this parent hash, where it passes its checks (50 to 54).
+/// The new leaf of the member at leaf `index`, with this parent hash and encryption key, where it passes its checks (50
+/// to 54).
 fn make_checked_leaf<S: Suite>(
     alloc: Global,
     group: &PublicGroup,
@@ -53,39 +56,39 @@ fn make_checked_leaf<S: Suite>(
     index: u32,
     old: &LeafNode,
     hash: Bytes,
-    seed: &Seed,
+    key: Vec<u8>,
 ) -> Result<LeafNode, PathError>
     requires context { IsShortContext group.now.context }
     requires old { IsBelow (2 ^ 27) leaf_node old.now }
     requires hash { length hash ≤ 32 }
-    ensures leaf { MakesLeaf S.crypto signing.now group.now index old.now hash seed.now result }
+    requires key { IsPublicKey S.crypto key.items }
+    ensures leaf { MakesLeaf S.crypto signing.now group.now index old.now hash key.items result }
     ensures below { IfOk result (λ leaf. IsBelow (2 ^ 28) leaf_node leaf) }
-    ensures checks { ChecksLeaf S.crypto signing.now group.now index old.now hash seed.now result }
+    ensures checks { ChecksLeaf S.crypto signing.now group.now index old.now hash key.items result }
 {
     let group_id = group.context().group_id.as_slice();
     let source = LeafSource::Commit { parent_hash: hash };
-    let leaf = renewed_leaf::<S>(alloc, signing, group_id, index, old, source, seed)?;
-    replaced::<S>(alloc, &leaf, old, Source::Commit, group_id, index)?;
+    let leaf = renewed_leaf_with_key::<S>(alloc, signing, group_id, index, old, source, key)?;
+    check_own_leaf::<S>(alloc, signing, &leaf, old, group_id, index)?;
     Ok(leaf)
 }
 
-/// The tree with a path's leaf and keys merged, and the committer's private keys in it (`KeyRepeated` 25,
-/// `ParentHashWrong` 24).
+/// The tree with a drafted path merged, and the committer's private keys in it (`KeyRepeated` 25, `ParentHashWrong` 24).
 fn merge_leaf_and_keys(
-    index: u32,
     tree: PublicTree,
     leaf: LeafNode,
-    public: Vec<Bytes>,
+    draft: PathDraft,
     made: Draft,
 ) -> Result<Merged, PathError>
-    ensures answer { MergesPath (term tree) index leaf public.items result }
+    requires { IsDraftFor (term tree) draft }
+    ensures answer { MergesPath (term tree) draft.index leaf draft.keys result }
     ensures leaf { IfOk result (λ x. x.leaf ≡ leaf) }
     ensures secrets { IfOk result (λ x. x.secrets ≡ made.secrets) }
     ensures keys { IfOk result (λ x. HasFollowed None (term x.tree) made.keys x.keys) }
 {
     let mut tree = tree;
     let Draft { secrets, mut keys } = made;
-    tree.merge_path(index, leaf.clone()?, public)?;
+    tree.merge_draft(leaf.clone()?, draft)?;
     keys.follow_edit(&tree, None)?;
     Ok(Merged {
         leaf,
@@ -118,12 +121,14 @@ fn merge_new_path<S: Suite>(
     let Some(old) = group.tree().leaf(index) else {
         return Err(PathError::Tree(TreeError::NoSuchLeaf));
     };
-    let made = make_draft::<S>(alloc, edited, index, seed)?;
+    let pair = leaf_pair::<S>(alloc, seed)?;
+    let made = make_draft::<S>(alloc, edited, index, seed, &pair.sk)?;
     let public = public_keys(alloc, &made.secrets)?;
     let mut tree = edited.clone()?;
-    let hash = parent_hash(&mut tree, index, &public)?;
-    let leaf = make_checked_leaf::<S>(alloc, group, signing, index, old, hash, seed)?;
-    merge_leaf_and_keys(index, tree, leaf, public, made)
+    let draft = draft_path(&mut tree, index, public)?;
+    let hash = Bytes::from_slice(alloc, draft.parent_hash())?;
+    let leaf = make_checked_leaf::<S>(alloc, group, signing, index, old, hash, pair.pk)?;
+    merge_leaf_and_keys(tree, leaf, draft, made)
 }
 
 /// The path of the member at leaf `index` for a commit with these extensions and edits: a member is there (`NoSuchLeaf`

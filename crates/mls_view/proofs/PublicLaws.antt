@@ -3,11 +3,11 @@ use Rattle.std.proofs.Common.{◌≡◌, ℕ, List, [], ◌++◌, Option, Some, 
 use Rattle.std.proofs.lemmas.List.{append_cancel_left}
 use Rattle.mls_wire.specs.Reading.{◌>>=◌, opaque_at}
 use Rattle.mls_wire.specs.Format.{IsBytes}
-use Rattle.mls_wire.specs.CombineLaws.{next_read, seen_read}
 use Rattle.mls_wire.specs.Combine.{byte_string}
+use Rattle.mls_wire.specs.CombineReads.{next_read, seen_read}
 use Rattle.mls_types.specs.Content.{framed_content}
 use Rattle.mls_types.specs.Signed.{signed_content}
-use Rattle.mls_types.specs.SignedParts.{framed, auth_data, signed_with, tagged_body}
+use Rattle.mls_types.specs.SignedParts.{framed_content_of, auth_data, with_signature, body_with_tag}
 use Rattle.mls_types.proofs.SignedParts.{signed_content_spelled, framed_signed_with}
 use Rattle.mls_types.specs.SignedLaws.{auth_at, signed_from}
 use Rattle.mls_types.proofs.SignedLaws.{signed_content_read}
@@ -27,7 +27,7 @@ use Rattle.mls_view.specs.Shown.{ShowsContent, ShowsFramed, ShowsPublic, ShowsTa
 use denote.Ref.{Bor}
 
 abbrev pub message_of : FramedContent → List ℕ × List ℕ → List ℕ → messages.PublicMessage
-message_of said auth tag = record { content = signed_with said auth.0 auth.1; membership_tag = tag }
+message_of said auth tag = record { content = with_signature said auth.0 auth.1; membership_tag = tag }
 
 abbrev tagged_from : FramedContent → (List ℕ × List ℕ) × List ℕ → Result (messages.PublicMessage × List ℕ) ℕ
 tagged_from said y = opaque_at y.1 >>= λ z. Ok (message_of said y.0 z.0, z.1)
@@ -42,11 +42,11 @@ abbrev tag_behind : SignedContent → Result (List ℕ × List ℕ) ℕ → Resu
 tag_behind v r = r >>= λ y. Ok ((v, y.0), y.1)
 
 tag_last : (said : FramedContent) (auth : List ℕ × List ℕ) (r : Result (List ℕ × List ℕ) ℕ)
-    → (tag_behind (signed_with said auth.0 auth.1) r >>= seen_read (λ (x : SignedContent × List ℕ). let m : messages.PublicMessage = record { content = x.0; membership_tag = x.1 } in m)) ≡ (r >>= λ z. Ok (message_of said auth z.0, z.1))
+    → (tag_behind (with_signature said auth.0 auth.1) r >>= seen_read (λ (x : SignedContent × List ℕ). let m : messages.PublicMessage = record { content = x.0; membership_tag = x.1 } in m)) ≡ (r >>= λ z. Ok (message_of said auth z.0, z.1))
 tag_last said auth (Ok z) = refl
 tag_last said auth (Err e) = refl
 
-auth_last : (said : FramedContent) (r : Result ((List ℕ × List ℕ) × List ℕ) ℕ) → public_of (r >>= λ y. Ok (signed_with said y.0.0 y.0.1, y.1)) ≡ (r >>= tagged_from said)
+auth_last : (said : FramedContent) (r : Result ((List ℕ × List ℕ) × List ℕ) ℕ) → public_of (r >>= λ y. Ok (with_signature said y.0.0 y.0.1, y.1)) ≡ (r >>= tagged_from said)
 auth_last said (Ok y) = tag_last said y.0 (opaque_at y.1)
 auth_last said (Err e) = refl
 
@@ -76,16 +76,16 @@ fault_of_tag said auth bytes middle behind n first second e = public_message_rea
 pub record PublicRead (said : FramedContent) (auth : List ℕ × List ℕ) (tag bytes middle behind rest : List ℕ) : Type 0 where
   pub is_read : public_message.read bytes ≡ Ok (message_of said auth tag, rest)
   pub framed_part : bytes ≡ framed_content.spell said ++ middle
-  pub auth_part : middle ≡ auth_data (signed_with said auth.0 auth.1) ++ behind
+  pub auth_part : middle ≡ auth_data (with_signature said auth.0 auth.1) ++ behind
 
 pub public_is_read : (said : FramedContent) (auth : List ℕ × List ℕ) (tag bytes middle behind rest : List ℕ) → IsBytes bytes → framed_content.read bytes ≡ Ok (said, middle) → auth_at said.content middle ≡ Ok (auth, behind)
     → opaque_at behind ≡ Ok (tag, rest) → PublicRead said auth tag bytes middle behind rest
 public_is_read said auth tag bytes middle behind rest fits first second third =
-    let v = signed_with said auth.0 auth.1 in
-    let signed : signed_content.read bytes ≡ Ok (signed_with said auth.0 auth.1, behind) = signed_content_read bytes ∙ rw (first, second) refl in
+    let v = with_signature said auth.0 auth.1 in
+    let signed : signed_content.read bytes ≡ Ok (with_signature said auth.0 auth.1, behind) = signed_content_read bytes ∙ rw (first, second) refl in
     let one : bytes ≡ framed_content.spell said ++ middle = (framed_content.lawful.takes bytes said middle fits first).0.parts in
     let all : bytes ≡ signed_content.spell v ++ behind = (signed_content.lawful.takes bytes v behind fits signed).0.parts in
-    let front : framed_content.spell (framed v) ≡ framed_content.spell said = ap framed_content.spell (framed_signed_with said auth.0 auth.1) in
+    let front : framed_content.spell (framed_content_of v) ≡ framed_content.spell said = ap framed_content.spell (framed_signed_with said auth.0 auth.1) in
     let split : bytes ≡ framed_content.spell said ++ (auth_data v ++ behind) =
     all ∙ ap (λ (l : List ℕ). l ++ behind) (signed_content_spelled v ∙ ap (λ (l : List ℕ). l ++ auth_data v) front) ∙ append_assoc (framed_content.spell said) (auth_data v) behind in
     record {
@@ -114,7 +114,7 @@ commit_auth view proposals path (says.Application shown) old middle new s t is s
 commit_auth view proposals path (says.Proposal shown) old middle new s t is shows e f = absurd (subst (λ (x : ContentView). ShowsContent x (says.Proposal shown)) is shows)
 commit_auth view proposals path (says.Commit shown) old middle new s t is shows e f = record { value = (s.now, t.now); is_read = rw (e, f) refl; signature = refl; confirmation_tag = refl }
 
-pub shows_tag : (view : Option (Bor (List ℕ))) (said : contents.Content) (tag : List ℕ) → ShowsTag view said tag → ShowsBodyTag view (tagged_body said tag)
+pub shows_tag : (view : Option (Bor (List ℕ))) (said : contents.Content) (tag : List ℕ) → ShowsTag view said tag → ShowsBodyTag view (body_with_tag said tag)
 shows_tag None (says.Application shown) tag shows = tt
 shows_tag None (says.Proposal shown) tag shows = tt
 shows_tag None (says.Commit shown) tag shows = absurd shows
@@ -129,14 +129,14 @@ pub public_shown : (content : FramedContentView) (auth : AuthDataView) (tag fram
     → Lends public_message ShowsPublic bytes (record { content = content; auth = auth; membership_tag = tag; framed_content = framed_bytes; auth_data = auth_bytes; whole = all }) rest
 public_shown content auth tag framed_bytes auth_bytes all bytes middle behind rest fits r a third framed_is auth_is all_is =
     let reads = public_is_read r.value a.value tag.now bytes middle behind rest fits r.is_read a.is_read third in
-    let same : framed (signed_with r.value a.value.0 a.value.1) ≡ r.value = framed_signed_with r.value a.value.0 a.value.1 in
+    let same : framed_content_of (with_signature r.value a.value.0 a.value.1) ≡ r.value = framed_signed_with r.value a.value.0 a.value.1 in
     let shown : ShowsPublic (record { content = content; auth = auth; membership_tag = tag; framed_content = framed_bytes; auth_data = auth_bytes; whole = all }) (message_of r.value a.value tag.now) = record {
       content = subst (λ (x : FramedContent). ShowsFramed content x) (sym same) r.shows;
       signature = a.signature;
       confirmation_tag = shows_tag auth.confirmation_tag r.value.content a.value.1 a.confirmation_tag;
       membership_tag = refl;
       framed_content = framed_is (framed_content.spell r.value) reads.framed_part ∙ ap framed_content.spell (sym same);
-      auth_data = auth_is (auth_data (signed_with r.value a.value.0 a.value.1)) reads.auth_part;
+      auth_data = auth_is (auth_data (with_signature r.value a.value.0 a.value.1)) reads.auth_part;
       whole = all_is (message_of r.value a.value tag.now) reads.is_read;
     } in
     record { value = message_of r.value a.value tag.now; is_read = reads.is_read; shows = shown }

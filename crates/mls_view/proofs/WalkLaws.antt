@@ -5,8 +5,8 @@ use Rattle.std.proofs.lemmas.List.{append-nil, length-append}
 use Rattle.mls_wire.specs.Format.{Format}
 use Rattle.mls_wire.specs.Reading.{opaque, opaque_at}
 use Rattle.mls_wire.specs.Laws.{ok_is, opaque_again}
-use Rattle.mls_wire.specs.CombineLaws.{IsNonempty}
 use Rattle.mls_wire.specs.Combine.{vector}
+use Rattle.mls_wire.specs.CombineReads.{IsNonempty}
 use Rattle.mls_leaf.specs.Faults.{Spells, IsPart}
 use Rattle.mls_view.specs.Views.{AreItems, LendsNextItem}
 

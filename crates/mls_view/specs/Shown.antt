@@ -11,7 +11,7 @@ use Rattle.mls_types.specs.Welcome.{encrypted_group_secrets, encrypted_group_sec
 use Rattle.mls_types.specs.declared.welcome.Welcome as welcomes
 use Rattle.mls_types.specs.Commit.{proposal_or_ref, proposal_or_ref_nonempty}
 use Rattle.mls_types.specs.Content.{framed_content}
-use Rattle.mls_types.specs.SignedParts.{framed, auth_data}
+use Rattle.mls_types.specs.SignedParts.{framed_content_of, auth_data}
 use Rattle.mls_types.specs.SignedLaws.{auth_at}
 use Rattle.mls_types.specs.PublicMessage.{public_message}
 use Rattle.mls_types.specs.declared.content.Content as contents
@@ -85,11 +85,11 @@ ShowsBodyTag (Some view) (signed.Commit shown tag) = view.now ≡ tag
 
 -- framed_content spells the FramedContent, auth_data the FramedContentAuthData, and whole all of the message
 pub record ShowsPublic (view : PublicMessageView) (shown : messages.PublicMessage) : Type 0 where
-  pub content : ShowsFramed view.content (framed shown.content)
+  pub content : ShowsFramed view.content (framed_content_of shown.content)
   pub signature : view.auth.signature.now ≡ shown.content.signature
   pub confirmation_tag : ShowsBodyTag view.auth.confirmation_tag shown.content.body
   pub membership_tag : view.membership_tag.now ≡ shown.membership_tag
-  pub framed_content : view.framed_content.now ≡ framed_content.spell (framed shown.content)
+  pub framed_content : view.framed_content.now ≡ framed_content.spell (framed_content_of shown.content)
   pub auth_data : view.auth_data.now ≡ auth_data shown.content
   pub whole : Spells public_message shown view.whole
 

@@ -8,7 +8,7 @@ use Rattle.mls_types.specs.Content.{framed_content}
 use Rattle.mls_types.specs.GroupContext.{group_context}
 use Rattle.mls_types.specs.PublicMessage.{authenticated_content}
 use Rattle.mls_types.specs.Reference.{proposal_reference}
-use Rattle.mls_types.specs.SignedParts.{framed}
+use Rattle.mls_types.specs.SignedParts.{framed_content_of}
 use Rattle.mls_types.specs.Signing.{framed_content_tbs, authenticated_content_tbm}
 use Rattle.mls_types.specs.declared.group_context.GroupContext.{GroupContext}
 use Rattle.mls_types.specs.declared.public_message.WireFormat.TheVariants.{PublicMessage}
@@ -16,10 +16,6 @@ use Rattle.mls_types.specs.declared.public_message.PublicMessage as messages
 use Rattle.mls_types.specs.declared.public_message.AuthenticatedContent.{AuthenticatedContent}
 use Rattle.mls_view.specs.declared.public_message.PublicMessageView.{PublicMessageView}
 use Rattle.mls_view.specs.Shown.{ShowsPublic}
-
--- FramedContentTBS (RFC 9420, 6.1): version 1, wire format 1, the FramedContent, the GroupContext
-abbrev pub signed_pieces : List ℕ → List ℕ → List ℕ
-signed_pieces said context = uint w16 1 ++ uint w16 1 ++ said ++ context
 
 -- AuthenticatedContentTBM (RFC 9420, 6.2): the FramedContentTBS, and then the FramedContentAuthData
 abbrev pub tagged_pieces : List ℕ → List ℕ → List ℕ → List ℕ
@@ -38,7 +34,7 @@ authenticated_content_of shown = record { wire_format = PublicMessage; content =
 -- the FramedContentTBS (RFC 9420, 6.1)
 abbrev pub IsSignedInput : PublicMessageView → List ℕ → List ℕ → Type 0
 IsSignedInput view context bytes =
-    (shown : messages.PublicMessage) (group : GroupContext) → ShowsPublic view shown → context ≡ group_context.spell group → bytes ≡ framed_content_tbs PublicMessage (framed shown.content) group
+    (shown : messages.PublicMessage) (group : GroupContext) → ShowsPublic view shown → context ≡ group_context.spell group → bytes ≡ framed_content_tbs PublicMessage (framed_content_of shown.content) group
 
 -- the tag of the AuthenticatedContentTBM under a key (RFC 9420, 6.2)
 abbrev pub IsMembershipTag : PublicMessageView → List ℕ → List ℕ → List ℕ → Type 0
@@ -53,4 +49,4 @@ IsProposalReference view reference =
 -- the confirmed transcript hash behind an interim one (RFC 9420, 8.2)
 abbrev pub IsConfirmedHash : PublicMessageView → List ℕ → List ℕ → Type 0
 IsConfirmedHash view interim hash =
-    (shown : messages.PublicMessage) → ShowsPublic view shown → hash ≡ confirmed_hash interim 1 (framed_content.spell (framed shown.content)) shown.content.signature
+    (shown : messages.PublicMessage) → ShowsPublic view shown → hash ≡ confirmed_hash interim 1 (framed_content.spell (framed_content_of shown.content)) shown.content.signature

@@ -3,11 +3,12 @@ use Rattle.std.specs.Prelude.{◌≡◌, ℕ, List, [], ◌∷◌, Option, Some,
 use Rattle.std.specs.List.{flat_map, AllByRecursion}
 use Rattle.mls_wire.specs.Format.{Format}
 use Rattle.mls_wire.specs.Combine.{vector}
-use Rattle.mls_wire.specs.CombineLaws.{IsNonempty}
 use Rattle.mls_wire.specs.declared.WireError.TheVariants as wire
+use Rattle.mls_wire.specs.CombineReads.{IsNonempty}
+use Rattle.mls_wire.specs.Whole.{whole}
 use Rattle.mls_leaf.specs.declared.error.LeafError.{LeafError}
 use Rattle.mls_leaf.specs.declared.error.LeafError.TheVariants.{Wire}
-use Rattle.mls_leaf.specs.Faults.{Spells, number_of, whole}
+use Rattle.mls_leaf.specs.Faults.{Spells, number_of}
 
 -- The view shows the value at the front.
 pub record Lends {V X : Type 0} (format : Format V) (Shows : X → V → Type 0) (old : List ℕ) (x : X) (new : List ℕ) : Type 0 where

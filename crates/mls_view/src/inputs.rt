@@ -2,7 +2,8 @@
 
 ghost use Rattle.std.specs.Prelude.{◌≡◌, ◌+◌, ◌<◌, ◌≤◌, ◌^◌, length, IfOk};
 ghost use Rattle.mls_kdf.specs.Kdf.{hmac, ref_hash};
-ghost use Rattle.mls_view.specs.SliceInputs.{signed_pieces, tagged_pieces, authenticated_pieces, IsSignedInput, IsMembershipTag, IsProposalReference, IsConfirmedHash};
+ghost use Rattle.mls_types.specs.Signing.{signed_pieces};
+ghost use Rattle.mls_view.specs.SliceInputs.{tagged_pieces, authenticated_pieces, IsSignedInput, IsMembershipTag, IsProposalReference, IsConfirmedHash};
 
 use crate::public_message::PublicMessageView;
 use mls_kdf::{Secret, content_header, hash, hmac};

@@ -55,7 +55,7 @@ fn read_message<'a>(reader: &mut Reader<'a>) -> Result<MessageView<'a>, LeafErro
     }
 }
 
-#[tactic(auto, unfolding(mls_leaf::specs::Faults::whole))]
+#[tactic(auto, unfolding(mls_wire::specs::Whole::whole))]
 fn read_whole<'a>(bytes: &'a [u8]) -> Result<MessageView<'a>, LeafError>
     ensures { LendsWhole mls_message input_limit Shows bytes.now result }
 {

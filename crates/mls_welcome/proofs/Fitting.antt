@@ -6,13 +6,14 @@ use Rattle.std.proofs.lemmas.List.{drop_more, drop_all}
 use Rattle.std.specs.Int.{w16, w32}
 use Rattle.mls_wire.specs.Reading.{uint, header, opaque}
 use Rattle.mls_wire.specs.Format.{Format, Skip}
-use Rattle.mls_wire.specs.CombineLaws.{IsNonempty}
 use Rattle.mls_wire.specs.Combine.{◌⨾◌, behind, mark, empty_vector, vector, optional, byte_string, uint16, uint32, uint64}
-use Rattle.mls_wire.specs.Stateful.{run_spelling, vector_from}
+use Rattle.mls_wire.specs.Stateful.{vector_from}
+use Rattle.mls_wire.specs.CombineReads.{IsNonempty}
+use Rattle.mls_wire.specs.StatefulReads.{run_spelling}
 use Rattle.mls_leaf.specs.Nonempty.{optional_nonempty}
 use Rattle.mls_leaf.specs.Leaf.{credential, uint16s, capabilities, leaf_source, leaf_node}
 use Rattle.mls_leaf.specs.Parent.{Parent, rises}
-use Rattle.mls_leaf.specs.ParentNode.{rising, parent_node}
+use Rattle.mls_leaf.specs.ParentNode.{rising_rule, parent_node}
 use Rattle.mls_leaf.specs.GroupExtensions.{are_allowed, group_extensions}
 use Rattle.mls_leaf.proofs.GroupExtensionsLaws.{group_extensions-fits}
 use Rattle.mls_leaf.proofs.ParentLaws.{RunFits-rising}
@@ -23,7 +24,7 @@ use Rattle.mls_leaf.specs.declared.leaf.LeafNode.{LeafNode}
 use Rattle.mls_leaf.specs.declared.leaf.LeafSource.TheVariants as leaf_node_source
 use Rattle.mls_leaf.specs.declared.node.Node.{Node}
 use Rattle.mls_leaf.specs.declared.node.Node.TheVariants.{Leaf as in_leaf, Parent as in_parent}
-use Rattle.mls_types.specs.Enclosed.{Whole, entire, at_most_one, enclosed}
+use Rattle.mls_types.specs.Enclosed.{entire, at_most_one, in_vector}
 use Rattle.mls_types.specs.GroupContext.{group_context}
 use Rattle.mls_types.specs.GroupInfo.{ratchet_tree, tree_extension, tree_extension_nonempty, group_info_extensions, group_info, group_info_tbs, GroupInfoTbsFits}
 use Rattle.mls_types.specs.UpdatePath.{hpke_ciphertext}
@@ -35,6 +36,7 @@ use Rattle.mls_types.specs.declared.welcome.EncryptedGroupSecrets.{EncryptedGrou
 use Rattle.mls_types.specs.declared.welcome.Welcome.{Welcome}
 use Rattle.mls_types.specs.Message.{mls_message}
 use Rattle.mls_types.specs.declared.message.MlsMessage.TheVariants as message
+use Rattle.mls_types.specs.EnclosedReads.{Whole}
 use Rattle.mls_public_group.specs.MessageLimit.{FitsIfShort}
 use Rattle.mls_welcome.specs.Ranges.{IsRanged}
 
@@ -80,7 +82,7 @@ behind_fit s a x h lt = h (short_last s.spell (a.spell x) _ lt)
 vector_fit : {V : Type 0} (a : Format V) (nonempty : IsNonempty a) (vs : List V) → AllByRecursion (FitsIfShort a) vs → FitsIfShort (vector a nonempty) vs
 vector_fit a nonempty vs h lt = let text : length (flat_map a.spell vs) < 2 ^ 30 = short_text (flat_map a.spell vs) _ lt in (all_fit a vs h text, text)
 
-enclosed_fit : {V : Type 0} (w : Whole V) (x : V) → (length (w.spell x) < 2 ^ 30 → w.Fits x) → FitsIfShort (enclosed w) x
+enclosed_fit : {V : Type 0} (w : Whole V) (x : V) → (length (w.spell x) < 2 ^ 30 → w.Fits x) → FitsIfShort (in_vector w) x
 enclosed_fit w x h lt = let text : length (w.spell x) < 2 ^ 30 = short_text (w.spell x) _ lt in (h text, text)
 
 -- ---- leaves
@@ -131,13 +133,13 @@ leaf_fit v able source =
 
 -- ---- parents and nodes
 
-rising_fit : (xs : List ℕ) → rises xs ≡ true → ((i : ℕ) → slice_index xs i < 2 ^ 32) → FitsIfShort (vector_from rising 0) xs
-rising_fit xs rise h lt = (RunFits-rising 0 xs rise (all_below (2 ^ 32) xs h), short_text (run_spelling rising 0 xs) _ lt)
+rising_fit : (xs : List ℕ) → rises xs ≡ true → ((i : ℕ) → slice_index xs i < 2 ^ 32) → FitsIfShort (vector_from rising_rule 0) xs
+rising_fit xs rise h lt = (RunFits-rising 0 xs rise (all_below (2 ^ 32) xs h), short_text (run_spelling rising_rule 0 xs) _ lt)
 
 pub parent_fit : (v : Parent) → rises v.unmerged_leaves ≡ true → ((i : ℕ) → slice_index v.unmerged_leaves i < 2 ^ 32) → FitsIfShort parent_node v
 unfolding parent_node
 parent_fit v rise h =
-    let t2 = vector_from rising 0 in
+    let t2 = vector_from rising_rule 0 in
     let t1 = byte_string ⨾ t2 in
     pair_fit byte_string t1 v.encryption_key (v.parent_hash, v.unmerged_leaves) (text_fit v.encryption_key)
     (pair_fit byte_string t2 v.parent_hash v.unmerged_leaves (text_fit v.parent_hash) (rising_fit v.unmerged_leaves rise h))
@@ -174,7 +176,7 @@ context_fit v suite epoch may =
     (pair_fit byte_string group_extensions v.confirmed_transcript_hash v.extensions (text_fit v.confirmed_transcript_hash) (group_extensions-fits v.extensions may))))))
 
 tree_fit : (xs : List (Option Node)) → AllByRecursion (FitsIfShort (optional node)) xs → FitsIfShort tree_extension xs
-tree_fit xs h = behind_fit (mark 2 14 (lit< tt)) (enclosed (entire ratchet_tree)) xs (enclosed_fit (entire ratchet_tree) xs (vector_fit (optional node) (optional_nonempty node) xs h))
+tree_fit xs h = behind_fit (mark 2 14 (lit< tt)) (in_vector (entire ratchet_tree)) xs (enclosed_fit (entire ratchet_tree) xs (vector_fit (optional node) (optional_nonempty node) xs h))
 
 extensions_fit : (o : Option (List (Option Node))) → IfSome o (λ xs. AllByRecursion (FitsIfShort (optional node)) xs) → FitsIfShort group_info_extensions o
 unfolding group_info_extensions

@@ -17,7 +17,7 @@ use Rattle.mls_types.specs.declared.group_info.GroupInfo.{GroupInfo}
 use Rattle.mls_suite.specs.Crypto.{Crypto}
 use Rattle.mls_suite.specs.Labels.{sign_with_label}
 use Rattle.mls_model.specs.Welcome.{signed_info}
-use Rattle.mls_model.specs.Messages.{are_bytes, is_within_limit}
+use Rattle.mls_model.specs.Messages.{are_bytes, require_within_limit}
 use Rattle.mls_public_group.proofs.Limits.{past_limit}
 use Rattle.mls_public_group.specs.MessageLimit.{FitsIfShort, limited_text}
 use Rattle.mls_welcome.specs.Ranges.{IsRanged}
@@ -32,8 +32,8 @@ bytes_all (x ∷ xs) h =
     let rest : list_all (λ (b : ℕ). nat_lt b 256) xs ≡ true = bytes_all xs (λ i. h (suc i)) in
     rw (here, rest) refl
 
-pub within : (bytes : List ℕ) → length bytes ≤ input_limit → ((i : ℕ) → slice_index bytes i < 256) → is_within_limit bytes ≡ Ok passed
-unfolding is_within_limit are_bytes
+pub within : (bytes : List ℕ) → length bytes ≤ input_limit → ((i : ℕ) → slice_index bytes i < 256) → require_within_limit bytes ≡ Ok passed
+unfolding require_within_limit are_bytes
 within bytes le h = rw (le-leb (length bytes) input_limit le, bytes_all bytes h) refl
 
 pub limited_long : (bytes : List ℕ) → input_limit < length bytes → limited_text bytes ≡ Err 6

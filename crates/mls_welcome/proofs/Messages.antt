@@ -15,7 +15,7 @@ use Rattle.mls_types.specs.Message.{mls_message}
 use Rattle.mls_types.specs.declared.message.MlsMessage.TheVariants as message
 use Rattle.mls_suite.specs.Crypto.{Crypto, Lawful}
 use Rattle.mls_schedule.specs.Epoch.{welcome_key, welcome_nonce}
-use Rattle.mls_model.specs.Messages.{is_within_limit}
+use Rattle.mls_model.specs.Messages.{require_within_limit}
 use Rattle.mls_model.specs.Welcome.{entries_for, welcome_message}
 use Rattle.mls_welcome.specs.WelcomeMessage.{have_fit_keys, welcome_of, message_with}
 use Rattle.mls_public_group.specs.MessageLimit.{limited_text}
@@ -64,12 +64,12 @@ abbrev after : Crypto → GroupInfo → List ℕ → (ℕ → List ℕ) → (ℕ
 after c info joiner secrets rnd n js = message_with c (c.aead_seal (welcome_key joiner) (welcome_nonce joiner) [] (group_info.spell info)) secrets rnd n js
 
 module _ (c : Crypto) (info : GroupInfo) (joiner : List ℕ) (secrets rnd : ℕ → List ℕ) (n : ℕ) (js : List (KeyPackage × ℕ)) where
-  whole_is : welcome_message c info joiner secrets rnd n js ≡ (is_within_limit (group_info.spell info) >> after c info joiner secrets rnd n js)
+  whole_is : welcome_message c info joiner secrets rnd n js ≡ (require_within_limit (group_info.spell info) >> after c info joiner secrets rnd n js)
   unfolding welcome_message message_with
   whole_is = refl
 
   pub info_refused : (e : ℕ) → limited_text (group_info.spell info) ≡ Err e → welcome_message c info joiner secrets rnd n js ≡ Err e
-  info_refused e refused = whole_is ∙ by_within (is_within_limit (group_info.spell info)) refused
+  info_refused e refused = whole_is ∙ by_within (require_within_limit (group_info.spell info)) refused
     where
       by_within : (r : Result Passed ℕ) → (r >> Ok (group_info.spell info)) ≡ Err e → (r >> after c info joiner secrets rnd n js) ≡ Err e
       by_within (Ok x) h = absurd cc
@@ -79,7 +79,7 @@ module _ (c : Crypto) (info : GroupInfo) (joiner : List ℕ) (secrets rnd : ℕ 
   pub info_done : (text encrypted key nonce : List ℕ) → limited_text (group_info.spell info) ≡ Ok text → key ≡ welcome_key joiner → nonce ≡ welcome_nonce joiner → encrypted ≡ c.aead_seal key nonce [] text
       → welcome_message c info joiner secrets rnd n js ≡ message_with c encrypted secrets rnd n js
   info_done text encrypted key nonce done key_is nonce_is sealed =
-      whole_is ∙ by_within (is_within_limit (group_info.spell info)) done
+      whole_is ∙ by_within (require_within_limit (group_info.spell info)) done
     where
       sealed_is : group_info.spell info ≡ text → c.aead_seal (welcome_key joiner) (welcome_nonce joiner) [] (group_info.spell info) ≡ encrypted
       sealed_is same = cc

@@ -18,11 +18,15 @@ package_and_leaf_of j = (j.key_package.now, j.leaf)
 
 -- what each leaf is sent: the joiner secret and the path secret of who was added there
 abbrev pub AreSecretsOf : List ℕ → (ℕ → List ℕ) → List Joiner → Type 0
-AreSecretsOf joiner_secret secrets joiners = AllByRecursion (λ (j : Joiner). secrets j.leaf ≡ secrets_with joiner_secret (option_copied j.path_secret)) joiners
+AreSecretsOf joiner_secret secrets joiners =
+    AllByRecursion
+    (λ (j : Joiner). secrets j.leaf ≡ secrets_with joiner_secret (option_copied j.path_secret))
+    joiners
 
 -- each KeyPackage encodes to fewer than 2^28 bytes
 abbrev pub AreShortJoiners : List Joiner → Type 0
-AreShortJoiners joiners = AllByRecursion (λ (j : Joiner). IsBelow (2 ^ 28) key_package j.key_package.now) joiners
+AreShortJoiners joiners =
+    AllByRecursion (λ (j : Joiner). IsBelow (2 ^ 28) key_package j.key_package.now) joiners
 
 -- the joiners are those whom the proposals add, each at its leaf
 abbrev pub HavePlaces : List Used → Edits → List Joiner → Type 0

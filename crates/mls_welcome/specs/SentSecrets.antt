@@ -16,7 +16,9 @@ IsSentTo t i (Some secrets) j secret = IsSentOf t i j secrets.secrets.items secr
 
 -- each joiner is sent what the committer at leaf i sends to its leaf
 abbrev pub AreSentTo : Term → ℕ → Option PathSecrets → List Joiner → Type 0
-AreSentTo t i secrets joiners = AllByRecursion (λ (j : Joiner). IsSentTo t i secrets j.leaf (option_copied j.path_secret)) joiners
+AreSentTo t i secrets joiners =
+    AllByRecursion (λ (j : Joiner). IsSentTo t i secrets j.leaf (option_copied j.path_secret))
+    joiners
 
 -- what is lent is what leaf j is sent
 abbrev pub IsLentTo : Edits → ℕ → Option (Bor PathSecrets) → ℕ → Option (Bor (List ℕ)) → Type 0
@@ -27,5 +29,7 @@ abbrev pub AreSentBy : Edits → ℕ → Option (Bor PathSecrets) → List Joine
 AreSentBy e i secrets joiners = AreSentTo e.tree i (option_copied secrets) joiners
 
 -- where each of the joiners before was sent that, each of those after is
-abbrev pub StaySent : {A E : Type 0} → Edits → ℕ → Option (Bor PathSecrets) → List Joiner → List Joiner → Result A E → Type 0
-StaySent e i secrets old new result = OnOk result (AreSentBy e i secrets old → AreSentBy e i secrets new)
+abbrev pub StaySent : {A E : Type 0} → Edits → ℕ → Option (Bor PathSecrets) → List Joiner →
+    List Joiner → Result A E → Type 0
+StaySent e i secrets old new result =
+    OnOk result (AreSentBy e i secrets old → AreSentBy e i secrets new)

@@ -17,10 +17,12 @@ have_fit_keys c joiners = list_all (λ (x : KeyPackage × ℕ). c.key_ok x.0.ini
 
 -- the Welcome with these entries and this sealed GroupInfo (RFC 9420, 12.4.3.1)
 abbrev pub welcome_of : Crypto → List EncryptedGroupSecrets → List ℕ → Welcome
-welcome_of c entries encrypted_info = record { cipher_suite = c.number; secrets = entries; encrypted_group_info = encrypted_info }
+welcome_of c entries encrypted_info =
+    record { cipher_suite = c.number; secrets = entries; encrypted_group_info = encrypted_info }
 
 -- the message of a Welcome with this sealed GroupInfo, or the number of the refusal
-unfoldable pub message_with : Crypto → List ℕ → (ℕ → List ℕ) → (ℕ → List ℕ) → ℕ → List (KeyPackage × ℕ) → Result (List ℕ) ℕ
+unfoldable pub message_with : Crypto → List ℕ → (ℕ → List ℕ) → (ℕ → List ℕ) → ℕ →
+    List (KeyPackage × ℕ) → Result (List ℕ) ℕ
 message_with c encrypted_info secrets rnd n joiners = do
   entries ← entries_for c encrypted_info secrets rnd n joiners
   limited_text (mls_message.spell (message.Welcome (welcome_of c entries encrypted_info)))

@@ -6,7 +6,7 @@ ghost use Rattle.mls_welcome.specs.Ranges.{IsRanged};
 ghost use Rattle.mls_welcome.specs.Entries.{IsInfoRefused, SignsInfo, info_signature};
 
 use crate::error::WelcomeError;
-use crate::limits::{is_within_limit, spell_within_limit};
+use crate::limits::{require_within_limit, spell_within_limit};
 use crate::ranges::know_slots;
 use mls_kdf::Secret;
 use mls_leaf::{Bytes, Items};
@@ -56,7 +56,7 @@ fn signature_of<S: Suite>(
     ensures refused { IfErr result (IsInfoRefused S.crypto signing.now info.now) }
 {
     let text = info.to_be_signed(alloc)?;
-    is_within_limit(&text)?;
+    require_within_limit(&text)?;
     let signature = sign_with_label::<S>(alloc, signing, "GroupInfoTBS", &text)?;
     Ok(Bytes::from_vec(signature))
 }

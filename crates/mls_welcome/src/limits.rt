@@ -1,9 +1,8 @@
 //! Spellings that aren't larger than a message may be.
 
 ghost use Rattle.std.specs.Prelude.{length};
-ghost use Rattle.mls_wire.specs.Checks.{AnswersOutright, passed};
-ghost use Rattle.mls_model.specs.Messages.{is_within_limit};
-ghost use Rattle.mls_welcome.specs.Faults.{number_of, GivesBytes, Measures};
+ghost use Rattle.mls_model.specs.Messages.{require_within_limit};
+ghost use Rattle.mls_welcome.specs.Faults.{GivesBytes, Measures, PassesOutright};
 ghost use Rattle.mls_public_group.specs.MessageLimit.{FitsIfShort, limited_text};
 
 use crate::error::WelcomeError;
@@ -13,8 +12,8 @@ use mls_wire::WireError;
 use std::alloc::Global;
 
 /// Refuses a text with more bytes than a message may have (`TooLong` 6).
-pub(crate) fn is_within_limit(bytes: &[u8]) -> Result<(), WelcomeError>
-    ensures answer { AnswersOutright (λ _. passed) number_of (is_within_limit bytes.now) result }
+pub(crate) fn require_within_limit(bytes: &[u8]) -> Result<(), WelcomeError>
+    ensures answer { PassesOutright (require_within_limit bytes.now) result }
     ensures length { Measures bytes.now result }
 {
     know_bytes(bytes);
@@ -33,6 +32,6 @@ pub(crate) fn spell_within_limit<T: Codec>(
     ensures { GivesBytes (limited_text (T.format.spell value.now)) result }
 {
     let bytes = value.encode(alloc)?;
-    is_within_limit(&bytes)?;
+    require_within_limit(&bytes)?;
     Ok(bytes)
 }

@@ -3,13 +3,14 @@
 ghost use Rattle.std.specs.Prelude.{◌≡◌, ◌<◌, ◌^◌, ◌+◌, length};
 ghost use Rattle.mls_welcome.specs.Joiners.{AreShortJoiners};
 ghost use Rattle.mls_welcome.specs.WelcomeMessage.{welcome_of};
-ghost use Rattle.mls_welcome.specs.Entries.{MakesWelcome, RefusesLong, SealsMessage, info_of};
+ghost use Rattle.mls_welcome.specs.Entries.{MakesWelcome, RefusesLong, SealsMessage};
+ghost use Rattle.mls_model.specs.Welcome.{info_of};
 
 use crate::entries::{Sealer, have_fit_keys};
 use crate::error::WelcomeError;
 use crate::info::signed_info;
 use crate::limits::spell_within_limit;
-use mls_kdf::{Secret, Seed};
+use mls_kdf::{HmacKey, Secret, Seed};
 use mls_leaf::{Bytes, Items, KeyPackage, LeafError};
 use mls_public_group::PublicGroup;
 use mls_schedule::Epoch;
@@ -57,7 +58,7 @@ fn welcome_of<S: Suite>(entries: Vec<EncryptedGroupSecrets>, encrypted_info: Vec
 fn message_with<S: Suite>(
     alloc: Global,
     encrypted_info: Vec<u8>,
-    sealer: &Sealer<'_>,
+    sealer: &Sealer<'_, '_>,
     joiners: &[Joiner<'_>],
     first_seal: u32,
 ) -> Result<Vec<u8>, WelcomeError>
@@ -97,9 +98,10 @@ pub fn welcome<S: Suite>(
     let info = signed_info::<S>(alloc, group, confirmation_tag, signer, signing)?;
     let key = Epoch::welcome_key(joiner_secret);
     let encrypted_info = S::aead_seal(alloc, &key.key, &key.nonce, &[], &info)?;
+    let seal_key = HmacKey::new(seed);
     let sealer = Sealer {
         joiner_secret,
-        seed,
+        seed: &seal_key,
     };
     message_with::<S>(alloc, encrypted_info, &sealer, joiners, first_seal)
 }

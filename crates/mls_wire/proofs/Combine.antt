@@ -3,12 +3,12 @@ use Rattle.std.specs.Prelude.{◌≡◌, ℕ, Bool, true, false, cond, ◌==◌,
 use Rattle.std.proofs.Common.{sym}
 use Rattle.std.proofs.lemmas.Bool.{eqb-true}
 use Rattle.mls_wire.specs.Format.{Format}
-use Rattle.mls_wire.specs.Combine.{refused, Cases}
+use Rattle.mls_wire.specs.Combine.{no_format, Cases}
 
 abbrev pub last_body : {V : Type 0} → ℕ → Format V → ℕ → ℕ → Format V
-last_body k a fault t = cond (t == k) a (refused fault)
+last_body k a fault t = cond (t == k) a (no_format fault)
 
-last_chosen : {V : Type 0} (b : Bool) (fault : ℕ) (a : Format V) (v : V) → (cond b a (refused fault)).Fits v → b ≡ true
+last_chosen : {V : Type 0} (b : Bool) (fault : ℕ) (a : Format V) (v : V) → (cond b a (no_format fault)).Fits v → b ≡ true
 last_chosen true fault a v fits = refl
 last_chosen false fault a v fits = absurd fits
 

@@ -1,7 +1,8 @@
 -- Ordered lists of checks, of which the first that fails decides, and what a call promises by such a list.
 use Rattle.std.specs.Prelude.{◌≡◌, ◌≢◌, ℕ, Bool, if◌then◌else◌, Result, Ok, Err, Option, Some, None}
 
--- One check after another stands as a `do` over the `◌>>=◌` of Reading, with this where a check has no value.
+-- What a check gives that passes and has no value. Checks in their order stand in a `do`, over the `◌>>=◌` of Reading
+-- and the `◌>>◌` below.
 pub data Passed : Type 0 where
   passed : Passed
 
@@ -20,8 +21,8 @@ abbrev pub require_some : {A : Type 0} → ℕ → Option A → Result A ℕ
 require_some n (Some x) = Ok x
 require_some n None = Err n
 
--- A call answers what the definition does: its value, or the number of its error. Where memory was
--- refused, `OutOfMemory` (1), it says nothing.
+-- A call answers what the definition does: its value, or the number of its error. Where memory was refused,
+-- `OutOfMemory` (1), nothing is said of the definition.
 abbrev pub Answers : {A B E : Type 0} → (B → A) → (E → ℕ) → Result A ℕ → Result B E → Type 0
 Answers value number defined (Ok x) = defined ≡ Ok (value x)
 Answers value number defined (Err e) = number e ≢ 1 → defined ≡ Err (number e)

@@ -1,11 +1,12 @@
 -- Which numbers a reading answers.
 use Rattle.std.specs.Prelude.{◌≡◌, ℕ, zero, suc, ◌+◌, ◌-◌, ◌^◌, ◌<◌, ◌==◌, ◌||◌, Bool, true, false, cond, nat_lt, List, [], ◌∷◌, length, take, drop, Result, Ok, Err, refl}
 use Rattle.std.specs.Int.{Width, w8, w16, w32, w64, byte_len, from_be_bytes}
-use Rattle.mls_wire.specs.Reading.{◌>>=◌, number_at, uint_at, mark_at, unmarked, length_at, opaque_at, empty_at}
+use Rattle.mls_wire.specs.Reading.{◌>>=◌, number_at, uint_at, mark_at, without_mark, length_at, opaque_at, empty_at}
 use Rattle.mls_wire.specs.Format.{Format, Skip}
-use Rattle.mls_wire.specs.CombineLaws.{IsNonempty, next_read, seen_read, body_read, tested, items_at, all_read, ended}
-use Rattle.mls_wire.specs.Combine.{◌⨾◌, Cases, case, others, left_format, right_format, make_left, make_right, by_uint8, by_uint16, behind, guarded, mark, empty_vector, nothing, byte_string, uint8, uint16, uint32, uint64, vector, optional, optional_body, make_some}
-use Rattle.mls_wire.specs.Stateful.{Rule, run_at, run_read, vector_from}
+use Rattle.mls_wire.specs.Combine.{◌⨾◌, Cases, case, others, left_format, right_format, make_left, make_right, by_uint8, by_uint16, behind, with_test, mark, empty_vector, nothing, byte_string, uint8, uint16, uint32, uint64, vector, optional, optional_body, make_some}
+use Rattle.mls_wire.specs.Stateful.{vector_from}
+use Rattle.mls_wire.specs.CombineReads.{IsNonempty, next_read, seen_read, body_read, if_passes, items_at, all_read, require_end}
+use Rattle.mls_wire.specs.StatefulReads.{Rule, run_at, run_read}
 
 -- Whether the number is one of `Truncated` (2), `Trailing` (3), `BadLength` (4), `NotMinimal` (5), `BadTag` (7),
 -- `UnsupportedCredential` (11), `UnsupportedProposal` (12), `NotRising` (13) and `ExtensionNotAllowed` (14).
@@ -49,18 +50,18 @@ pub uint_answered : (w : Width) (bytes : List ℕ) → Answered (uint_at w bytes
 unfolding uint_at
 uint_answered w bytes = number_answered w bytes
 
-unmarked_answered : (least mark : ℕ) (n : ℕ × List ℕ) → Answered (unmarked mark least n)
+unmarked_answered : (least mark : ℕ) (n : ℕ × List ℕ) → Answered (without_mark mark least n)
 unmarked_answered least mark n = answered_if (nat_lt n.0 (mark + least)) (Err 5) (Ok (n.0 - mark, n.1)) refl tt
 
 length_answered : (bytes : List ℕ) → Answered (length_at bytes)
 unfolding length_at
 length_answered [] = refl
 length_answered (b ∷ rest) =
-    let two = number_at w16 (b ∷ rest) >>= unmarked 16384 64 in
-    let four = number_at w32 (b ∷ rest) >>= unmarked 2147483648 16384 in
+    let two = number_at w16 (b ∷ rest) >>= without_mark 16384 64 in
+    let four = number_at w32 (b ∷ rest) >>= without_mark 2147483648 16384 in
     answered_if (nat_lt b 64) (Ok (b, rest)) (cond (nat_lt b 128) two (cond (nat_lt b 192) four (Err 4))) tt
-    (answered_if (nat_lt b 128) two (cond (nat_lt b 192) four (Err 4)) (answered_then (number_at w16 (b ∷ rest)) (unmarked 16384 64) (number_answered w16 (b ∷ rest)) (unmarked_answered 64 16384))
-    (answered_if (nat_lt b 192) four (Err 4) (answered_then (number_at w32 (b ∷ rest)) (unmarked 2147483648 16384) (number_answered w32 (b ∷ rest)) (unmarked_answered 16384 2147483648)) refl))
+    (answered_if (nat_lt b 128) two (cond (nat_lt b 192) four (Err 4)) (answered_then (number_at w16 (b ∷ rest)) (without_mark 16384 64) (number_answered w16 (b ∷ rest)) (unmarked_answered 64 16384))
+    (answered_if (nat_lt b 192) four (Err 4) (answered_then (number_at w32 (b ∷ rest)) (without_mark 2147483648 16384) (number_answered w32 (b ∷ rest)) (unmarked_answered 16384 2147483648)) refl))
 
 pub opaque_answered : (bytes : List ℕ) → Answered (opaque_at bytes)
 unfolding opaque_at
@@ -118,9 +119,9 @@ behind_answered {A} {s} read h k bytes = answered_then (s.read bytes) read (h.an
 pub seen_answered : {A V : Type 0} {a : Format A} (make : A → V) → HasFaults a → (bytes : List ℕ) → Answered (a.read bytes >>= seen_read make)
 seen_answered {A} {V} {a} make h bytes = answered_then (a.read bytes) (seen_read make) (h.answers bytes) (λ x. tt)
 
-pub guarded_faults : {V : Type 0} {a : Format V} (test : V → Bool) (fault : ℕ) → is_fault fault ≡ true → HasFaults a → HasFaults (guarded a test fault)
+pub guarded_faults : {V : Type 0} {a : Format V} (test : V → Bool) (fault : ℕ) → is_fault fault ≡ true → HasFaults a → HasFaults (with_test a test fault)
 guarded_faults {V} {a} test fault is h = record {
-  answers = λ bytes. answered_then (a.read bytes) (tested test fault) (h.answers bytes) (λ x. answered_if (test x.0) (Ok x) (Err fault) tt is);
+  answers = λ bytes. answered_then (a.read bytes) (if_passes test fault) (h.answers bytes) (λ x. answered_if (test x.0) (Ok x) (Err fault) tt is);
 }
 
 -- ---- one of several, by a tag
@@ -179,5 +180,5 @@ vector_from_faults rule s h = record {
 
 -- ---- one value, and no byte behind it
 
-pub ended_answered : {V : Type 0} (x : V × List ℕ) → Answered (ended x)
+pub ended_answered : {V : Type 0} (x : V × List ℕ) → Answered (require_end x)
 ended_answered x = answered_if (length x.1 == 0) (Ok x.0) (Err 3) tt refl

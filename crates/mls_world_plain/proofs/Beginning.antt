@@ -65,13 +65,13 @@ begun_world w es ss before after ms ds js new n x y e s j same h b a is last see
 -- ---- a journal goes on from a commit that was made
 
 made_in : (w : World) (es : List Entrant) (ss : List Seated) (ms : List (List ℕ)) (ds : List Making) (js : List Journal) (i : ℕ) (d : Making) (x : CommitMade)
-    → world_of es ss ms ds js ≡ w → AreStored ss ds js → d ≡ get_or ds i d → i < length w.made → slice_get w.made i ≡ Some x → journal_at js d.journal ≡ with_entry x.journal x.entry
+    → world_of es ss ms ds js ≡ w → AreStored ss ds js → d ≡ get_or ds i d → i < length w.commits → slice_get w.commits i ≡ Some x → journal_at js d.journal ≡ with_entry x.journal x.entry
 made_in w es ss ms ds js i d x same h at =
-    subst (λ (v : World). i < length v.made → slice_get v.made i ≡ Some x → journal_at js d.journal ≡ with_entry x.journal x.entry) same
+    subst (λ (v : World). i < length v.commits → slice_get v.commits i ≡ Some x → journal_at js d.journal ≡ with_entry x.journal x.entry) same
     (λ lt found. made_found js ss ds i d x h (omega (arith, lt, length-map ds (commit_made_of js))) at found)
 
 pub followed_world : (w : World) (es : List Entrant) (ss before after : List Seated) (ms : List (List ℕ)) (ds : List Making) (js : List Journal) (n : ℕ) (x y e : Entrant) (s : Seated) (i : ℕ) (d f : Making) (k : CommitMade)
-    → world_of es ss ms ds js ≡ w → AreStored ss ds js → before ≡ ss → after ≡ before ++ s ∷ [] → s.journal ≡ f.journal → f ≡ d → i < length w.made → d ≡ get_or ds i d → slice_get w.made i ≡ Some k
+    → world_of es ss ms ds js ≡ w → AreStored ss ds js → before ≡ ss → after ≡ before ++ s ∷ [] → s.journal ≡ f.journal → f ≡ d → i < length w.commits → d ≡ get_or ds i d → slice_get w.commits i ≡ Some k
     → y ≡ x → x ≡ get_or es n x → n < length w.entrants → slice_get w.entrants n ≡ Some e
     → world_of (slice_set es n (spent y)) after ms ds js ≡ with_new_member w n e (seat_with s (with_entry k.journal k.entry))
 followed_world w es ss before after ms ds js n x y e s i d f k same h b a stands is within made found seen at lt there =

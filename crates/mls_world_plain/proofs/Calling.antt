@@ -15,7 +15,7 @@ abbrev pub at_same : Seated → Member → Seated
 at_same s m = record { member = m; journal = s.journal }
 
 abbrev the_world : List Entrant → List Seat → List (List ℕ) → List CommitMade → World
-the_world es seats ms made = record { entrants = es; seats = seats; messages = ms; made = made }
+the_world es seats ms made = record { entrants = es; seats = seats; messages = ms; commits = made }
 
 -- member k is changed
 pub member_changed : (es : List Entrant) (ss : List Seated) (ms : List (List ℕ)) (ds : List Making) (js : List Journal) (k : ℕ) (s : Seated) (m : Member)

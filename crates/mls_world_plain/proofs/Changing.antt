@@ -23,7 +23,7 @@ use Rattle.mls_world_plain.proofs.Stores.{seat_set, seats_stay, made_stay, store
 use Rattle.mls_world_plain.proofs.JournalSteps.{journal_seam}
 
 abbrev parts : List Entrant → List Seat → List (List ℕ) → List CommitMade → World
-parts es seats ms made = record { entrants = es; seats = seats; messages = ms; made = made }
+parts es seats ms made = record { entrants = es; seats = seats; messages = ms; commits = made }
 
 -- ---- deliveries to a seat
 
@@ -143,19 +143,19 @@ pub entry_last : (js : List Journal) (j : Journal) (e : Entry) → HasEntry (js 
 entry_last js j e = record { within = last_within js (with_entry j e); follows = rw (journal_seam js (with_entry j e)) refl }
 
 pub made_last : (js : List Journal) (j : Journal) (e : Entry) (maker : ℕ) (epoch : List ℕ) (adds : List (List ℕ)) (welcome : Option (ℕ × List ℕ))
-    → commit_made_of (js ++ with_entry j e ∷ []) (record { maker = maker; journal = length js; epoch = epoch; adds = adds; welcome = welcome }) ≡ record { maker = maker; journal = j; entry = e; epoch = epoch; adds = adds; welcome = welcome }
+    → commit_made_of (js ++ with_entry j e ∷ []) (record { maker = maker; journal = length js; epoch_secret = epoch; adds = adds; welcome = welcome }) ≡ record { maker = maker; journal = j; entry = e; epoch_secret = epoch; adds = adds; welcome = welcome }
 made_last js j e maker epoch adds welcome = rw (journal_seam js (with_entry j e)) refl
 
 pub made_added : (es : List Entrant) (ss : List Seated) (ms more : List (List ℕ)) (ds : List Making) (js : List Journal) (j : Journal) (e : Entry) (maker : ℕ) (epoch : List ℕ) (adds : List (List ℕ)) (welcome : Option (ℕ × List ℕ)) → AreStored ss ds js
-    → world_of es ss (ms ++ more) (ds ++ record { maker = maker; journal = length js; epoch = epoch; adds = adds; welcome = welcome } ∷ []) (js ++ with_entry j e ∷ [])
-    ≡ record (world_of es ss ms ds js) { messages = ms ++ more; made = map (commit_made_of js) ds ++ record { maker = maker; journal = j; entry = e; epoch = epoch; adds = adds; welcome = welcome } ∷ [] }
+    → world_of es ss (ms ++ more) (ds ++ record { maker = maker; journal = length js; epoch_secret = epoch; adds = adds; welcome = welcome } ∷ []) (js ++ with_entry j e ∷ [])
+    ≡ record (world_of es ss ms ds js) { messages = ms ++ more; commits = map (commit_made_of js) ds ++ record { maker = maker; journal = j; entry = e; epoch_secret = epoch; adds = adds; welcome = welcome } ∷ [] }
 made_added es ss ms more ds js j e maker epoch adds welcome h =
     let new = js ++ with_entry j e ∷ [] in
-    let d : Making = record { maker = maker; journal = length js; epoch = epoch; adds = adds; welcome = welcome } in
+    let d : Making = record { maker = maker; journal = length js; epoch_secret = epoch; adds = adds; welcome = welcome } in
     let a : map (seat_of new) ss ≡ map (seat_of js) ss = seats_stay js (with_entry j e ∷ []) ss h.seats in
     let b : map (commit_made_of new) ds ≡ map (commit_made_of js) ds = made_stay js (with_entry j e ∷ []) ds h.made in
-    let last : commit_made_of new d ≡ record { maker = maker; journal = j; entry = e; epoch = epoch; adds = adds; welcome = welcome } = made_last js j e maker epoch adds welcome in
-    let f : map (commit_made_of new) (ds ++ d ∷ []) ≡ map (commit_made_of js) ds ++ record { maker = maker; journal = j; entry = e; epoch = epoch; adds = adds; welcome = welcome } ∷ [] =
+    let last : commit_made_of new d ≡ record { maker = maker; journal = j; entry = e; epoch_secret = epoch; adds = adds; welcome = welcome } = made_last js j e maker epoch adds welcome in
+    let f : map (commit_made_of new) (ds ++ d ∷ []) ≡ map (commit_made_of js) ds ++ record { maker = maker; journal = j; entry = e; epoch_secret = epoch; adds = adds; welcome = welcome } ∷ [] =
     map-append (commit_made_of new) ds (d ∷ []) ∙ ap (λ (l : List CommitMade). l ++ commit_made_of new d ∷ []) b ∙ ap (λ (x : CommitMade). map (commit_made_of js) ds ++ x ∷ []) last in
     ap (λ (l : List Seat). parts es l (ms ++ more) (map (commit_made_of new) (ds ++ d ∷ []))) a ∙ ap (λ (l : List CommitMade). parts es (map (seat_of js) ss) (ms ++ more) l) f
 

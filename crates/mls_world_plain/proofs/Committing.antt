@@ -67,13 +67,13 @@ same_messages m (Some welcome) = refl
 abbrev the_outcome : Crypto → World → ℕ → Seat → List ProposalOrRef → Made → Reply × World
 the_outcome c w k s list made = (
   reply.Commit (length w.messages) (option_map (λ (bytes : List ℕ). length w.messages + 1) made.welcome),
-  record (with_member w k s (with_pending s.member made.pending)) { messages = w.messages ++ commit_messages made made.welcome; made = w.made ++ (commit_record w k s list made ∷ []) },
+  record (with_member w k s (with_pending s.member made.pending)) { messages = w.messages ++ commit_messages made made.welcome; commits = w.commits ++ (commit_record w k s list made ∷ []) },
 )
 
 abbrev with_messages : Crypto → World → ℕ → Seat → List ProposalOrRef → Made → List (List ℕ) → Reply × World
 with_messages c w k s list made more = (
   reply.Commit (length w.messages) (option_map (λ (bytes : List ℕ). length w.messages + 1) made.welcome),
-  record (with_member w k s (with_pending s.member made.pending)) { messages = w.messages ++ more; made = w.made ++ (commit_record w k s list made ∷ []) },
+  record (with_member w k s (with_pending s.member made.pending)) { messages = w.messages ++ more; commits = w.commits ++ (commit_record w k s list made ∷ []) },
 )
 
 abbrev the_answer : Reply × World → Result (Reply × World) ℕ
@@ -81,7 +81,7 @@ the_answer y = Ok y
 
 pub commit_is : (c : Crypto) (w mid new : World) (k : ℕ) (items : List WorldItem) (path : Bool) (seed : List ℕ) (list : List ProposalOrRef) (s : Seat) (x : List ℕ × Option (List ℕ)) (names adds : List (List ℕ)) (said : Reply)
     → slice_get w.seats k ≡ Some s → items_of w items ≡ Ok list → commit_by c w k list path seed ≡ Ok (x, mid) → IsNamed s.member.kept list names adds
-    → ((t : Seat) (p : Pending) → slice_get mid.seats k ≡ Some t → t.member.pending ≡ Some p → record_commit mid k t p.epoch x names adds ≡ (said, new))
+    → ((t : Seat) (p : Pending) → slice_get mid.seats k ≡ Some t → t.member.pending ≡ Some p → record_commit mid k t p.epoch_secret x names adds ≡ (said, new))
     → commit_answer c w k items path seed ≡ Ok (said, new)
 unfolding commit_answer commit_record with_pending
 commit_is c w mid new k items path seed list s x names adds said found listed does named h =
@@ -89,13 +89,13 @@ commit_is c w mid new k items path seed list s x names adds said found listed do
     let m = was.made in
     let t : Seat = record { member = with_pending s.member m.pending; journal = s.journal } in
     let there : slice_get mid.seats k ≡ Some t = ap (λ (v : World). slice_get v.seats k) was.world ∙ set_there w.seats k s t found in
-    let e : record_commit mid k t m.pending.epoch x names adds ≡ (said, new) = h t m.pending there refl in
+    let e : record_commit mid k t m.pending.epoch_secret x names adds ≡ (said, new) = h t m.pending there refl in
     let same : messages_with m.commit m.welcome ≡ commit_messages m m.welcome = same_messages m m.welcome in
-    let e1 : record_commit mid k t m.pending.epoch x (names_in s.member.kept list) adds ≡ (said, new) = subst (λ (l : List (List ℕ)). record_commit mid k t m.pending.epoch x l adds ≡ (said, new)) named.names_are e in
-    let e2 : record_commit mid k t m.pending.epoch x (names_in s.member.kept list) (adds_in s.member.kept list) ≡ (said, new) = subst (λ (l : List (List ℕ)). record_commit mid k t m.pending.epoch x (names_in s.member.kept list) l ≡ (said, new)) named.adds_are e1 in
-    let e3 : record_commit mid k t m.pending.epoch (m.commit, m.welcome) (names_in s.member.kept list) (adds_in s.member.kept list) ≡ (said, new) = subst (λ (y : List ℕ × Option (List ℕ)). record_commit mid k t m.pending.epoch y (names_in s.member.kept list) (adds_in s.member.kept list) ≡ (said, new)) was.messages e2 in
-    let e4 : record_commit (with_member w k s (with_pending s.member m.pending)) k t m.pending.epoch (m.commit, m.welcome) (names_in s.member.kept list) (adds_in s.member.kept list) ≡ (said, new) = subst (λ (v : World). record_commit v k t m.pending.epoch (m.commit, m.welcome) (names_in s.member.kept list) (adds_in s.member.kept list) ≡ (said, new)) was.world e3 in
-    let e5 : the_outcome c w k s list m ≡ record_commit (with_member w k s (with_pending s.member m.pending)) k t m.pending.epoch (m.commit, m.welcome) (names_in s.member.kept list) (adds_in s.member.kept list) = ap (λ (l : List (List ℕ)). with_messages c w k s list m l) (sym same) in
+    let e1 : record_commit mid k t m.pending.epoch_secret x (names_in s.member.kept list) adds ≡ (said, new) = subst (λ (l : List (List ℕ)). record_commit mid k t m.pending.epoch_secret x l adds ≡ (said, new)) named.names_are e in
+    let e2 : record_commit mid k t m.pending.epoch_secret x (names_in s.member.kept list) (adds_in s.member.kept list) ≡ (said, new) = subst (λ (l : List (List ℕ)). record_commit mid k t m.pending.epoch_secret x (names_in s.member.kept list) l ≡ (said, new)) named.adds_are e1 in
+    let e3 : record_commit mid k t m.pending.epoch_secret (m.commit, m.welcome) (names_in s.member.kept list) (adds_in s.member.kept list) ≡ (said, new) = subst (λ (y : List ℕ × Option (List ℕ)). record_commit mid k t m.pending.epoch_secret y (names_in s.member.kept list) (adds_in s.member.kept list) ≡ (said, new)) was.messages e2 in
+    let e4 : record_commit (with_member w k s (with_pending s.member m.pending)) k t m.pending.epoch_secret (m.commit, m.welcome) (names_in s.member.kept list) (adds_in s.member.kept list) ≡ (said, new) = subst (λ (v : World). record_commit v k t m.pending.epoch_secret (m.commit, m.welcome) (names_in s.member.kept list) (adds_in s.member.kept list) ≡ (said, new)) was.world e3 in
+    let e5 : the_outcome c w k s list m ≡ record_commit (with_member w k s (with_pending s.member m.pending)) k t m.pending.epoch_secret (m.commit, m.welcome) (names_in s.member.kept list) (adds_in s.member.kept list) = ap (λ (l : List (List ℕ)). with_messages c w k s list m l) (sym same) in
     rw (found, listed, was.is_made) (ap (λ (y : Reply × World). the_answer y) (e5 ∙ e4))
 
 pub items_refused : (c : Crypto) (w : World) (k : ℕ) (items : List WorldItem) (path : Bool) (seed : List ℕ) (s : Seat) (n : ℕ) → slice_get w.seats k ≡ Some s → items_of w items ≡ Err n → commit_answer c w k items path seed ≡ Err n

@@ -88,18 +88,18 @@ create_refused c w n group seed e i there made = rw (there, made) refl
 abbrev as_joined : ℕ → ℕ → World → Result (Reply × World) ℕ
 as_joined k epoch w = Ok (reply.Joined k epoch, w)
 
-join_by : (c : Crypto) (w : World) (n : ℕ) (source : Source) (bytes : List ℕ) (e : Entrant) (j : JoinedMember) (o : Option CommitMade) → entrant_at w n ≡ Ok e → bytes_of w source ≡ Ok bytes → join_verdict c e.candidate bytes ≡ Ok j → commit_for_joiner w.made source e.candidate ≡ o
+join_by : (c : Crypto) (w : World) (n : ℕ) (source : Source) (bytes : List ℕ) (e : Entrant) (j : JoinedMember) (o : Option CommitMade) → entrant_at w n ≡ Ok e → bytes_of w source ≡ Ok bytes → join_verdict c e.candidate bytes ≡ Ok j → commit_for_joiner w.commits source e.candidate ≡ o
     → join_answer c w n source ≡ as_joined (length w.seats) j.member.public.context.epoch (with_new_member w n e (record { member = j.member; journal = joiner_journal o j.info }))
 unfolding join_answer
 join_by c w n source bytes e j o there lent joined made = rw (there, lent, joined, made) refl
 
-pub join_begun : (c : Crypto) (w new : World) (n k epoch : ℕ) (source : Source) (bytes : List ℕ) (e : Entrant) (j : JoinedMember) → entrant_at w n ≡ Ok e → bytes_of w source ≡ Ok bytes → join_verdict c e.candidate bytes ≡ Ok j → commit_for_joiner w.made source e.candidate ≡ None → k ≡ length w.seats → epoch ≡ j.member.public.context.epoch
+pub join_begun : (c : Crypto) (w new : World) (n k epoch : ℕ) (source : Source) (bytes : List ℕ) (e : Entrant) (j : JoinedMember) → entrant_at w n ≡ Ok e → bytes_of w source ≡ Ok bytes → join_verdict c e.candidate bytes ≡ Ok j → commit_for_joiner w.commits source e.candidate ≡ None → k ≡ length w.seats → epoch ≡ j.member.public.context.epoch
     → ((x : Entrant) → slice_get w.entrants n ≡ Some x → new ≡ with_new_member w n x (record { member = j.member; journal = new_journal (from.GroupInfo j.info) }))
     → join_answer c w n source ≡ Ok (reply.Joined k epoch, new)
 join_begun c w new n k epoch source bytes e j there lent joined made at in_epoch h =
     join_by c w n source bytes e j None there lent joined made ∙ (rw (at, in_epoch, h e (entrant_there w n e there)) refl)
 
-pub join_followed : (c : Crypto) (w new : World) (n k epoch i : ℕ) (source : Source) (bytes : List ℕ) (e : Entrant) (j : JoinedMember) (d : CommitMade) → entrant_at w n ≡ Ok e → bytes_of w source ≡ Ok bytes → join_verdict c e.candidate bytes ≡ Ok j → commit_for_joiner w.made source e.candidate ≡ Some d → k ≡ length w.seats → epoch ≡ j.member.public.context.epoch
+pub join_followed : (c : Crypto) (w new : World) (n k epoch i : ℕ) (source : Source) (bytes : List ℕ) (e : Entrant) (j : JoinedMember) (d : CommitMade) → entrant_at w n ≡ Ok e → bytes_of w source ≡ Ok bytes → join_verdict c e.candidate bytes ≡ Ok j → commit_for_joiner w.commits source e.candidate ≡ Some d → k ≡ length w.seats → epoch ≡ j.member.public.context.epoch
     → ((x : Entrant) → slice_get w.entrants n ≡ Some x → new ≡ with_new_member w n x (record { member = j.member; journal = with_entry d.journal d.entry }))
     → join_answer c w n source ≡ Ok (reply.Joined k epoch, new)
 join_followed c w new n k epoch i source bytes e j d there lent joined made at in_epoch h =

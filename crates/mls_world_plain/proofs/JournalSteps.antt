@@ -4,17 +4,17 @@ use Rattle.std.proofs.lemmas.List.{length-append, get_or_append_left}
 use Rattle.std.proofs.Math.Seq.{get_or-append_seam, take-append_seam}
 use Rattle.mls_model.specs.declared.origin.Origin.TheVariants as from
 use Rattle.mls_model.specs.Journal.{Entry, Journal, new_journal, with_entry}
-use Rattle.mls_world_plain.specs.declared.entry.Step.{Step}
-use Rattle.mls_world_plain.specs.StoredWorld.{journal_at, before}
-use Rattle.mls_world_plain.specs.declared.entry.Step.TheVariants.{Begun, Followed}
+use Rattle.mls_world_plain.specs.declared.entry.JournalStep.{JournalStep}
+use Rattle.mls_world_plain.specs.StoredWorld.{journal_at, journal_before}
+use Rattle.mls_world_plain.specs.declared.entry.JournalStep.TheVariants.{Begun, Followed}
 use Rattle.mls_world_plain.specs.JournalSteps.{journal_of, journals_of, GoesBack, GoBack, HasStep}
 
-behind : (js : List Journal) (ss : List Step) (s : Step) → journals_of js (ss ++ s ∷ []) ≡ journals_of js ss ++ journal_of (journals_of js ss) s ∷ []
+behind : (js : List Journal) (ss : List JournalStep) (s : JournalStep) → journals_of js (ss ++ s ∷ []) ≡ journals_of js ss ++ journal_of (journals_of js ss) s ∷ []
 unfolding journals_of
 behind js [] s = refl
 behind js (x ∷ ss) s = behind (js ++ journal_of js x ∷ []) ss s
 
-many : (js : List Journal) (ss : List Step) → length (journals_of js ss) ≡ length js + length ss
+many : (js : List Journal) (ss : List JournalStep) → length (journals_of js ss) ≡ length js + length ss
 unfolding journals_of
 many js [] = omega arith
 many js (x ∷ ss) =
@@ -22,10 +22,10 @@ many js (x ∷ ss) =
     let d : length (js ++ journal_of js x ∷ []) ≡ length js + 1 = length-append js (journal_of js x ∷ []) in
     omega arith
 
-pub one_more : (ss : List Step) (s : Step) → journals_of [] (ss ++ s ∷ []) ≡ journals_of [] ss ++ journal_of (journals_of [] ss) s ∷ []
+pub one_more : (ss : List JournalStep) (s : JournalStep) → journals_of [] (ss ++ s ∷ []) ≡ journals_of [] ss ++ journal_of (journals_of [] ss) s ∷ []
 one_more ss s = behind [] ss s
 
-pub as_many : (ss : List Step) → length (journals_of [] ss) ≡ length ss
+pub as_many : (ss : List JournalStep) → length (journals_of [] ss) ≡ length ss
 as_many ss = let e : length (journals_of [] ss) ≡ length {A = Journal} [] + length ss = many [] ss in omega (arith, e)
 
 pub journal_stays : (js more : List Journal) (n : ℕ) → n < length js → journal_at (js ++ more) n ≡ journal_at js n
@@ -42,21 +42,21 @@ pub goes_none : GoBack 0 []
 unfolding GoBack
 goes_none = tt
 
-pub goes_more : (n : ℕ) (ss : List Step) (s : Step) → GoBack n ss → GoesBack (n + length ss) s → GoBack n (ss ++ s ∷ [])
+pub goes_more : (n : ℕ) (ss : List JournalStep) (s : JournalStep) → GoBack n ss → GoesBack (n + length ss) s → GoBack n (ss ++ s ∷ [])
 unfolding GoBack
 goes_more n [] s go back = let e : n + 0 ≡ n = omega arith in (subst (λ (k : ℕ). GoesBack k s) e back, tt)
 goes_more n (x ∷ ss) s go back =
     let e : n + suc (length ss) ≡ suc n + length ss = omega arith in
     (go.0, goes_more (suc n) ss s go.1 (subst (λ (k : ℕ). GoesBack k s) e back))
 
-pub goes_less : (n k : ℕ) (ss : List Step) → GoBack n ss → GoBack n (take k ss)
+pub goes_less : (n k : ℕ) (ss : List JournalStep) → GoBack n ss → GoBack n (take k ss)
 unfolding GoBack
 goes_less n zero ss go = tt
 goes_less n (suc k) [] go = tt
 goes_less n (suc k) (s ∷ ss) go = (go.0, goes_less (suc n) k ss go.1)
 
 -- a journal that stands there stays as others come
-stays : (js : List Journal) (ss : List Step) (n : ℕ) → n < length js → journal_at (journals_of js ss) n ≡ journal_at js n
+stays : (js : List Journal) (ss : List JournalStep) (n : ℕ) → n < length js → journal_at (journals_of js ss) n ≡ journal_at js n
 unfolding journals_of
 stays js [] n lt = refl
 stays js (s ∷ ss) n lt =
@@ -64,11 +64,11 @@ stays js (s ∷ ss) n lt =
     stays (js ++ journal_of js s ∷ []) ss n g ∙ journal_stays js (journal_of js s ∷ []) n lt
 
 -- and so does that of a step
-step_stays : (js : List Journal) (ss : List Step) (s : Step) → GoesBack (length js) s → journal_of (journals_of js ss) s ≡ journal_of js s
+step_stays : (js : List Journal) (ss : List JournalStep) (s : JournalStep) → GoesBack (length js) s → journal_of (journals_of js ss) s ≡ journal_of js s
 step_stays js ss (Begun origin) back = refl
 step_stays js ss (Followed b entry) back = ap (λ (j : Journal). with_entry j entry) (stays js ss b back)
 
-first_step : (js : List Journal) (ss : List Step) (s : Step) → GoesBack (length js) s → HasStep (journals_of js (s ∷ ss)) (length js) s
+first_step : (js : List Journal) (ss : List JournalStep) (s : JournalStep) → GoesBack (length js) s → HasStep (journals_of js (s ∷ ss)) (length js) s
 unfolding journals_of
 first_step js ss s back =
     let more : List Journal = js ++ journal_of js s ∷ [] in
@@ -76,12 +76,12 @@ first_step js ss s back =
     let whole : journals_of js (s ∷ ss) ≡ journals_of more ss = refl in
     record { is = stays more ss (length js) lt ∙ journal_seam js (journal_of js s) ∙ sym (step_stays js (s ∷ ss) s back); back = back }
 
-steps_from : (js : List Journal) (ss : List Step) (k : ℕ) (s : Step) → GoBack (length js) ss → k < length ss → s ≡ get_or ss k s → HasStep (journals_of js ss) (length js + k) s
+steps_from : (js : List Journal) (ss : List JournalStep) (k : ℕ) (s : JournalStep) → GoBack (length js) ss → k < length ss → s ≡ get_or ss k s → HasStep (journals_of js ss) (length js + k) s
 unfolding journals_of GoBack
 steps_from js [] k s go lt e = absurd (omega arith)
 steps_from js (x ∷ ss) zero s go lt e =
     let n : length js ≡ length js + 0 = omega arith in
-    subst (λ (m : ℕ). HasStep (journals_of js (x ∷ ss)) m s) n (subst (λ (y : Step). HasStep (journals_of js (x ∷ ss)) (length js) y) (sym e) (first_step js ss x go.0))
+    subst (λ (m : ℕ). HasStep (journals_of js (x ∷ ss)) m s) n (subst (λ (y : JournalStep). HasStep (journals_of js (x ∷ ss)) (length js) y) (sym e) (first_step js ss x go.0))
 steps_from js (x ∷ ss) (suc k) s go lt e =
     let more : List Journal = js ++ journal_of js x ∷ [] in
     let len : length more ≡ suc (length js) = omega (arith, length-append js (journal_of js x ∷ [])) in
@@ -90,19 +90,19 @@ steps_from js (x ∷ ss) (suc k) s go lt e =
     subst (λ (m : ℕ). HasStep (journals_of js (x ∷ ss)) m s) n r
 
 -- what a list of steps stands for, step by step
-pub step_at : (ss : List Step) (n : ℕ) (s : Step) → GoBack 0 ss → n < length ss → s ≡ get_or ss n s → HasStep (journals_of [] ss) n s
+pub step_at : (ss : List JournalStep) (n : ℕ) (s : JournalStep) → GoBack 0 ss → n < length ss → s ≡ get_or ss n s → HasStep (journals_of [] ss) n s
 step_at ss n s go lt e =
     let z : 0 + n ≡ n = omega arith in
     subst (λ (m : ℕ). HasStep (journals_of [] ss) m s) z (steps_from [] ss n s go lt e)
 
 -- one more goes on from one that stands there
-pub goes_behind : (ss : List Step) (s : Step) → GoBack 0 ss → GoesBack (length (journals_of [] ss)) s → GoBack 0 (ss ++ s ∷ [])
+pub goes_behind : (ss : List JournalStep) (s : JournalStep) → GoBack 0 ss → GoesBack (length (journals_of [] ss)) s → GoBack 0 (ss ++ s ∷ [])
 goes_behind ss s go back =
     let n : length (journals_of [] ss) ≡ 0 + length ss = omega (arith, as_many ss) in
     goes_more 0 ss s go (subst (λ (k : ℕ). GoesBack k s) n back)
 
 -- an entry is behind its journal
-pub before_entry : (j : Journal) (e : Entry) → before (with_entry j e) ≡ j
+pub before_entry : (j : Journal) (e : Entry) → journal_before (with_entry j e) ≡ j
 before_entry j e = refl
 
 -- ---- the last one is taken back
@@ -114,30 +114,30 @@ init_same (a ∷ xs) [] x y h = let e = ap length h in absurd (omega (arith, e, 
 init_same (a ∷ xs) (b ∷ ys) x y h = let r : xs ++ x ∷ [] ≡ ys ++ y ∷ [] = cc in let p : a ≡ b = cc in let t = init_same xs ys x y r in cc
 
 -- a list with one behind it
-record Snoc (ss : List Step) : Type 0 where
-  first : List Step
-  final : Step
+record Snoc (ss : List JournalStep) : Type 0 where
+  first : List JournalStep
+  final : JournalStep
   is : ss ≡ first ++ final ∷ []
 
-snoc_of : (y : Step) (ss : List Step) → Snoc (y ∷ ss)
+snoc_of : (y : JournalStep) (ss : List JournalStep) → Snoc (y ∷ ss)
 snoc_of y [] = record { first = []; final = y; is = refl }
-snoc_of y (z ∷ ss) = let r = snoc_of z ss in record { first = y ∷ r.first; final = r.final; is = ap (λ (l : List Step). y ∷ l) r.is }
+snoc_of y (z ∷ ss) = let r = snoc_of z ss in record { first = y ∷ r.first; final = r.final; is = ap (λ (l : List JournalStep). y ∷ l) r.is }
 
 none_longer : (js : List Journal) (j : Journal) → [] ≡ js ++ j ∷ [] → ⊥
 none_longer js j h = let e = ap length h in omega (arith, e, length-append js (j ∷ []))
 
-without_last : (xs : List Step) (x : Step) → take (length (xs ++ x ∷ []) - 1) (xs ++ x ∷ []) ≡ xs
+without_last : (xs : List JournalStep) (x : JournalStep) → take (length (xs ++ x ∷ []) - 1) (xs ++ x ∷ []) ≡ xs
 without_last xs x =
     let n : length (xs ++ x ∷ []) - 1 ≡ length xs = omega (arith, length-append xs (x ∷ [])) in
     ap (λ (k : ℕ). take k (xs ++ x ∷ [])) n ∙ take-append_seam xs (x ∷ [])
 
-by_snoc : (ss : List Step) → Snoc ss → (js : List Journal) (j : Journal) → journals_of [] ss ≡ js ++ j ∷ [] → journals_of [] (take (length ss - 1) ss) ≡ js
+by_snoc : (ss : List JournalStep) → Snoc ss → (js : List Journal) (j : Journal) → journals_of [] ss ≡ js ++ j ∷ [] → journals_of [] (take (length ss - 1) ss) ≡ js
 by_snoc ss r js j h =
-    let t : take (length ss - 1) ss ≡ r.first = ap (λ (l : List Step). take (length l - 1) l) r.is ∙ without_last r.first r.final in
-    let e : journals_of [] r.first ++ journal_of (journals_of [] r.first) r.final ∷ [] ≡ js ++ j ∷ [] = sym (one_more r.first r.final) ∙ ap (λ (l : List Step). journals_of [] l) (sym r.is) ∙ h in
-    ap (λ (l : List Step). journals_of [] l) t ∙ init_same (journals_of [] r.first) js (journal_of (journals_of [] r.first) r.final) j e
+    let t : take (length ss - 1) ss ≡ r.first = ap (λ (l : List JournalStep). take (length l - 1) l) r.is ∙ without_last r.first r.final in
+    let e : journals_of [] r.first ++ journal_of (journals_of [] r.first) r.final ∷ [] ≡ js ++ j ∷ [] = sym (one_more r.first r.final) ∙ ap (λ (l : List JournalStep). journals_of [] l) (sym r.is) ∙ h in
+    ap (λ (l : List JournalStep). journals_of [] l) t ∙ init_same (journals_of [] r.first) js (journal_of (journals_of [] r.first) r.final) j e
 
-pub taken_back : (ss : List Step) (js : List Journal) (j : Journal) → journals_of [] ss ≡ js ++ j ∷ [] → journals_of [] (take (length ss - 1) ss) ≡ js
+pub taken_back : (ss : List JournalStep) (js : List Journal) (j : Journal) → journals_of [] ss ≡ js ++ j ∷ [] → journals_of [] (take (length ss - 1) ss) ≡ js
 unfolding journals_of
 taken_back [] js j h = absurd (none_longer js j h)
 taken_back (y ∷ ss) js j h = by_snoc (y ∷ ss) (snoc_of y ss) js j h

@@ -18,7 +18,7 @@ use Rattle.mls_model.specs.declared.item.Item.{Item}
 use Rattle.mls_model.specs.PublicState.{Used}
 use Rattle.mls_model.specs.Proposals.{add_in, adds}
 use Rattle.mls_model.specs.Candidate.{Candidate}
-use Rattle.mls_model.specs.Make.{listed_of}
+use Rattle.mls_model.specs.Make.{list_item_of}
 use Rattle.mls_model.specs.Member.{KeptProposal, kept_under, find_proposal, find_proposals, named_proposal, named_proposals}
 use Rattle.mls_model.specs.Journal.{Journal, names_in, used_of, adds_in}
 use Rattle.mls_model.specs.World.{World, item_of, items_of, commit_for_joiner}
@@ -129,7 +129,7 @@ one_used done u (Ok us) = also_so done (add_in u.proposal) (filter_map (λ (v : 
 one_used done u (Err n) = refl
 
 abbrev pub AddsFrom : List KeptProposal → List Item → ℕ → List (List ℕ) → Type 0
-AddsFrom kept items i done = behind done (find_proposals kept 0 (map listed_of (drop i items))) ≡ adds_in kept (map listed_of items)
+AddsFrom kept items i done = behind done (find_proposals kept 0 (map list_item_of (drop i items))) ≡ adds_in kept (map list_item_of items)
 
 first_adds : (r : Result (List Used) ℕ) → behind [] r ≡ map spelled (adds (used_of r))
 unfolding adds
@@ -138,7 +138,7 @@ first_adds (Err n) = refl
 
 pub adds_start : (kept : List KeptProposal) (items : List Item) → AddsFrom kept items 0 []
 unfolding adds_in
-adds_start kept items = first_adds (find_proposals kept 0 (map listed_of items))
+adds_start kept items = first_adds (find_proposals kept 0 (map list_item_of items))
 
 used_first : (kept : List KeptProposal) (x : ProposalOrRef) (xs : List ProposalOrRef) (p : Proposal) (done all : List (List ℕ)) → IsUsed kept x p → behind done (find_proposals kept 0 (x ∷ xs)) ≡ all → behind (with_package done (add_in p)) (find_proposals kept 0 xs) ≡ all
 unfolding find_proposals
@@ -150,28 +150,28 @@ unused_first : (kept : List KeptProposal) (x : ProposalOrRef) (xs : List Proposa
 unfolding find_proposals
 unused_first kept x xs done all e h = rw e at h
 
-at_item : (kept : List KeptProposal) (items : List Item) (i : ℕ) (x : Item) (done : List (List ℕ)) → i < length items → x ≡ get_or items i x → AddsFrom kept items i done → behind done (find_proposals kept 0 (listed_of x ∷ map listed_of (drop (i + 1) items))) ≡ adds_in kept (map listed_of items)
-at_item kept items i x done lt e h = subst (λ (l : List Item). behind done (find_proposals kept 0 (map listed_of l)) ≡ adds_in kept (map listed_of items)) (here items i x lt e) h
+at_item : (kept : List KeptProposal) (items : List Item) (i : ℕ) (x : Item) (done : List (List ℕ)) → i < length items → x ≡ get_or items i x → AddsFrom kept items i done → behind done (find_proposals kept 0 (list_item_of x ∷ map list_item_of (drop (i + 1) items))) ≡ adds_in kept (map list_item_of items)
+at_item kept items i x done lt e h = subst (λ (l : List Item). behind done (find_proposals kept 0 (map list_item_of l)) ≡ adds_in kept (map list_item_of items)) (here items i x lt e) h
 
 -- one that says a proposal
-pub adds_next : (kept : List KeptProposal) (items : List Item) (i : ℕ) (x : Item) (p : Proposal) (done : List (List ℕ)) → i < length items → x ≡ get_or items i x → Some p ≡ proposal_for kept (listed_of x) → AddsFrom kept items i done → AddsFrom kept items (i + 1) (with_package done (add_in p))
+pub adds_next : (kept : List KeptProposal) (items : List Item) (i : ℕ) (x : Item) (p : Proposal) (done : List (List ℕ)) → i < length items → x ≡ get_or items i x → Some p ≡ proposal_for kept (list_item_of x) → AddsFrom kept items i done → AddsFrom kept items (i + 1) (with_package done (add_in p))
 adds_next kept items i x p done lt e said h =
-    used_first kept (listed_of x) (map listed_of (drop (i + 1) items)) p done (adds_in kept (map listed_of items)) (is_used kept (listed_of x) p (sym said)) (at_item kept items i x done lt e h)
+    used_first kept (list_item_of x) (map list_item_of (drop (i + 1) items)) p done (adds_in kept (map list_item_of items)) (is_used kept (list_item_of x) p (sym said)) (at_item kept items i x done lt e h)
 
-pub adds_stop : (kept : List KeptProposal) (items : List Item) (i : ℕ) (x : Item) (done : List (List ℕ)) → i < length items → x ≡ get_or items i x → None ≡ proposal_for kept (listed_of x) → AddsFrom kept items i done → [] ≡ adds_in kept (map listed_of items)
+pub adds_stop : (kept : List KeptProposal) (items : List Item) (i : ℕ) (x : Item) (done : List (List ℕ)) → i < length items → x ≡ get_or items i x → None ≡ proposal_for kept (list_item_of x) → AddsFrom kept items i done → [] ≡ adds_in kept (map list_item_of items)
 adds_stop kept items i x done lt e said h =
-    unused_first kept (listed_of x) (map listed_of (drop (i + 1) items)) done (adds_in kept (map listed_of items)) (not_used kept (listed_of x) (sym said)) (at_item kept items i x done lt e h)
+    unused_first kept (list_item_of x) (map list_item_of (drop (i + 1) items)) done (adds_in kept (map list_item_of items)) (not_used kept (list_item_of x) (sym said)) (at_item kept items i x done lt e h)
 
-pub adds_end : (kept : List KeptProposal) (items : List Item) (i : ℕ) (done : List (List ℕ)) → length items ≤ i → AddsFrom kept items i done → done ≡ adds_in kept (map listed_of items)
+pub adds_end : (kept : List KeptProposal) (items : List Item) (i : ℕ) (done : List (List ℕ)) → length items ≤ i → AddsFrom kept items i done → done ≡ adds_in kept (map list_item_of items)
 unfolding find_proposals adds
-adds_end kept items i done le h = sym (append-nil done) ∙ subst (λ (l : List Item). behind done (find_proposals kept 0 (map listed_of l)) ≡ adds_in kept (map listed_of items)) (drop_all i items le) h
+adds_end kept items i done le h = sym (append-nil done) ∙ subst (λ (l : List Item). behind done (find_proposals kept 0 (map list_item_of l)) ≡ adds_in kept (map list_item_of items)) (drop_all i items le) h
 
 no_value : (o : Option (Bor Proposal)) → ((x : Bor Proposal) → o ≢ Some x) → option_copied o ≡ None
 no_value None h = refl
 no_value (Some x) h = absurd (h x refl)
 
-pub adds_none : (kept : List KeptProposal) (items : List Item) (i : ℕ) (x : Item) (done : List (List ℕ)) (o : Option (Bor Proposal)) → i < length items → x ≡ get_or items i x → option_copied o ≡ proposal_for kept (listed_of x) → ((y : Bor Proposal) → o ≢ Some y) → AddsFrom kept items i done
-    → [] ≡ adds_in kept (map listed_of items)
+pub adds_none : (kept : List KeptProposal) (items : List Item) (i : ℕ) (x : Item) (done : List (List ℕ)) (o : Option (Bor Proposal)) → i < length items → x ≡ get_or items i x → option_copied o ≡ proposal_for kept (list_item_of x) → ((y : Bor Proposal) → o ≢ Some y) → AddsFrom kept items i done
+    → [] ≡ adds_in kept (map list_item_of items)
 adds_none kept items i x done o lt e said none h = adds_stop kept items i x done lt e (sym (no_value o none) ∙ said) h
 
 pub rest_short : (items : List Item) (i : ℕ) (x : Item) → i < length items → x ≡ get_or items i x → AreShortItems (drop i items) → AreShortItems (drop (i + 1) items)
@@ -184,7 +184,7 @@ with_items done r = r >>= λ ys. Ok (done ++ ys)
 
 -- items so far, and those of the rest
 pub record AreItems (w : World) (items : List WorldItem) (i : ℕ) (done : List Item) : Type 0 where
-  pub answer : with_items (map listed_of done) (items_of w (drop i items)) ≡ items_of w items
+  pub answer : with_items (map list_item_of done) (items_of w (drop i items)) ≡ items_of w items
   pub short : AreShortItems done
 
 none_done : (r : Result (List ProposalOrRef) ℕ) → with_items [] r ≡ r
@@ -209,24 +209,24 @@ item_fails : (w : World) (x : WorldItem) (xs : List WorldItem) (n : ℕ) (done :
 unfolding items_of
 item_fails w x xs n done all e h = sym (rw e at h)
 
-pub items_next : (w : World) (items : List WorldItem) (i : ℕ) (x : WorldItem) (y : Item) (done : List Item) → i < length items → x ≡ get_or items i x → AreItems w items i done → item_of w x ≡ Ok (listed_of y) → IsShortItem y → AreItems w items (i + 1) (done ++ y ∷ [])
+pub items_next : (w : World) (items : List WorldItem) (i : ℕ) (x : WorldItem) (y : Item) (done : List Item) → i < length items → x ≡ get_or items i x → AreItems w items i done → item_of w x ≡ Ok (list_item_of y) → IsShortItem y → AreItems w items (i + 1) (done ++ y ∷ [])
 items_next w items i x y done lt e h is short = record {
   answer =
-      let a = subst (λ (l : List WorldItem). with_items (map listed_of done) (items_of w l) ≡ items_of w items) (here items i x lt e) h.answer in
-      let b = item_done w x (drop (i + 1) items) (listed_of y) (map listed_of done) (items_of w items) is a in
-      subst (λ (l : List ProposalOrRef). with_items l (items_of w (drop (i + 1) items)) ≡ items_of w items) (sym (map-append listed_of done (y ∷ []))) b;
+      let a = subst (λ (l : List WorldItem). with_items (map list_item_of done) (items_of w l) ≡ items_of w items) (here items i x lt e) h.answer in
+      let b = item_done w x (drop (i + 1) items) (list_item_of y) (map list_item_of done) (items_of w items) is a in
+      subst (λ (l : List ProposalOrRef). with_items l (items_of w (drop (i + 1) items)) ≡ items_of w items) (sym (map-append list_item_of done (y ∷ []))) b;
   short = all_behind IsShortItem done y h.short short;
 }
 
 pub items_fail : (w : World) (items : List WorldItem) (i : ℕ) (x : WorldItem) (n : ℕ) (done : List Item) → i < length items → x ≡ get_or items i x → AreItems w items i done → item_of w x ≡ Err n → items_of w items ≡ Err n
 items_fail w items i x n done lt e h is =
-    item_fails w x (drop (i + 1) items) n (map listed_of done) (items_of w items) is (subst (λ (l : List WorldItem). with_items (map listed_of done) (items_of w l) ≡ items_of w items) (here items i x lt e) h.answer)
+    item_fails w x (drop (i + 1) items) n (map list_item_of done) (items_of w items) is (subst (λ (l : List WorldItem). with_items (map list_item_of done) (items_of w l) ≡ items_of w items) (here items i x lt e) h.answer)
 
-pub items_end : (w : World) (items : List WorldItem) (i : ℕ) (done : List Item) → length items ≤ i → AreItems w items i done → items_of w items ≡ Ok (map listed_of done)
+pub items_end : (w : World) (items : List WorldItem) (i : ℕ) (done : List Item) → length items ≤ i → AreItems w items i done → items_of w items ≡ Ok (map list_item_of done)
 unfolding items_of
 items_end w items i done le h =
-    let a = subst (λ (l : List WorldItem). with_items (map listed_of done) (items_of w l) ≡ items_of w items) (drop_all i items le) h.answer in
-    sym a ∙ ap (λ (l : List ProposalOrRef). all_ok l) (append-nil (map listed_of done))
+    let a = subst (λ (l : List WorldItem). with_items (map list_item_of done) (items_of w l) ≡ items_of w items) (drop_all i items le) h.answer in
+    sym a ∙ ap (λ (l : List ProposalOrRef). all_ok l) (append-nil (map list_item_of done))
 
 -- ---- the first record
 

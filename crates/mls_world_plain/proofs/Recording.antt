@@ -8,7 +8,7 @@ use Rattle.mls_model.specs.declared.event.Reply.{Reply}
 use Rattle.mls_model.specs.declared.event.Reply.TheVariants as reply
 use Rattle.mls_model.specs.Journal.{Journal, Entry, with_entry}
 use Rattle.mls_model.specs.declared.item.Item.{Item}
-use Rattle.mls_model.specs.Make.{commit_call, listed_of}
+use Rattle.mls_model.specs.Make.{commit_call, list_item_of}
 use Rattle.mls_model.specs.WorldCalls.{commit_answer, drop_answer}
 use Rattle.mls_model.specs.Member.{Member, Pending, without_pending}
 use Rattle.mls_model.specs.declared.event.WorldItem.{WorldItem}
@@ -94,7 +94,7 @@ stored_recorded ss ds before after js new j e d h b a is at =
 
 -- a record, as it is made
 abbrev pub making : ℕ → ℕ → List ℕ → List (List ℕ) → Option (ℕ × List ℕ) → Making
-making maker journal epoch adds welcome = record { maker = maker; journal = journal; epoch = epoch; adds = adds; welcome = welcome }
+making maker journal epoch adds welcome = record { maker = maker; journal = journal; epoch_secret = epoch; adds = adds; welcome = welcome }
 
 abbrev numbered : ℕ → Option (List ℕ) → Option (ℕ × List ℕ)
 numbered n o = option_map (λ (bytes : List ℕ). (n, bytes)) o
@@ -102,7 +102,7 @@ numbered n o = option_map (λ (bytes : List ℕ). (n, bytes)) o
 abbrev recorded_with : World → ℕ → Journal → List ℕ → List (List ℕ) → List ℕ → List (List ℕ) → List (List ℕ) → Option (ℕ × List ℕ) → World
 recorded_with w k j commit names epoch adds more welcome = record w {
   messages = w.messages ++ more;
-  made = w.made ++ (record { maker = k; journal = j; entry = record { commit = commit; names = names }; epoch = epoch; adds = adds; welcome = welcome } ∷ []);
+  commits = w.commits ++ (record { maker = k; journal = j; entry = record { commit = commit; named_messages = names }; epoch_secret = epoch; adds = adds; welcome = welcome } ∷ []);
 }
 
 abbrev the_pair : Reply → World → Reply × World
@@ -110,9 +110,9 @@ the_pair r w = (r, w)
 
 added : (w : World) (es : List Entrant) (ss : List Seated) (ms more : List (List ℕ)) (ds : List Making) (js : List Journal) (k : ℕ) (j : Journal) (commit : List ℕ) (names : List (List ℕ)) (epoch : List ℕ) (adds : List (List ℕ)) (welcome : Option (ℕ × List ℕ))
     → world_of es ss ms ds js ≡ w → AreStored ss ds js
-    → world_of es ss (ms ++ more) (ds ++ making k (length js) epoch adds welcome ∷ []) (js ++ with_entry j (record { commit = commit; names = names }) ∷ []) ≡ recorded_with w k j commit names epoch adds more welcome
+    → world_of es ss (ms ++ more) (ds ++ making k (length js) epoch adds welcome ∷ []) (js ++ with_entry j (record { commit = commit; named_messages = names }) ∷ []) ≡ recorded_with w k j commit names epoch adds more welcome
 added w es ss ms more ds js k j commit names epoch adds welcome same h =
-    made_added es ss ms more ds js j (record { commit = commit; names = names }) k epoch adds welcome h
+    made_added es ss ms more ds js j (record { commit = commit; named_messages = names }) k epoch adds welcome h
     ∙ ap (λ (v : World). recorded_with v k j commit names epoch adds more welcome) same
 
 abbrev record_of : World → ℕ → Journal → List ℕ → List ℕ → Option (List ℕ) → List (List ℕ) → List (List ℕ) → ℕ → Reply × World
@@ -124,30 +124,30 @@ fused f n None = refl
 fused f n (Some x) = refl
 
 world_is : (w : World) (es : List Entrant) (ss : List Seated) (ms : List (List ℕ)) (ds : List Making) (js new : List Journal) (k at : ℕ) (j : Journal) (commit seen : List ℕ) (names : List (List ℕ)) (epoch : List ℕ) (adds : List (List ℕ)) (more messages : List (List ℕ)) (welcome said : Option (ℕ × List ℕ)) (after : List Making)
-    → world_of es ss ms ds js ≡ w → AreStored ss ds js → at ≡ length js → seen ≡ commit → said ≡ welcome → new ≡ js ++ with_entry j (record { commit = seen; names = names }) ∷ []
+    → world_of es ss ms ds js ≡ w → AreStored ss ds js → at ≡ length js → seen ≡ commit → said ≡ welcome → new ≡ js ++ with_entry j (record { commit = seen; named_messages = names }) ∷ []
     → after ≡ ds ++ making k at epoch adds said ∷ [] → messages ≡ ms ++ more
     → recorded_with w k j commit names epoch adds more welcome ≡ world_of es ss messages after new
 world_is w es ss ms ds js new k at j commit seen names epoch adds more messages welcome said after same h last sent numbers journals made told =
-    let journal_entries : new ≡ js ++ with_entry j (record { commit = commit; names = names }) ∷ [] = journals ∙ ap (λ (c : List ℕ). js ++ with_entry j (record { commit = c; names = names }) ∷ []) sent in
+    let journal_entries : new ≡ js ++ with_entry j (record { commit = commit; named_messages = names }) ∷ [] = journals ∙ ap (λ (c : List ℕ). js ++ with_entry j (record { commit = c; named_messages = names }) ∷ []) sent in
     let made_1 : after ≡ ds ++ making k (length js) epoch adds said ∷ [] = made ∙ ap (λ (n : ℕ). made_with ds (making k n epoch adds said)) last in
     let made_2 : after ≡ ds ++ making k (length js) epoch adds welcome ∷ [] = made_1 ∙ ap (λ (z : Option (ℕ × List ℕ)). made_with ds (making k (length js) epoch adds z)) numbers in
     rw (told, made_2, journal_entries) (sym (added w es ss ms more ds js k j commit names epoch adds welcome same h))
 
 pub recorded_is : {X : Type 0} (f : X → List ℕ) (w : World) (es : List Entrant) (ss : List Seated) (ms messages : List (List ℕ)) (ds before after : List Making) (js new : List Journal) (k at n : ℕ) (x y : Seated) (s : Seat) (p : Pending)
     (commit seen : List ℕ) (o : Option X) (names adds : List (List ℕ)) (epoch : List ℕ) (said : Option (ℕ × List ℕ)) (answered : Option ℕ)
-    → world_of es ss ms ds js ≡ w → AreStored ss ds js → y ≡ x → x ≡ get_or ss k x → k < length w.seats → slice_get w.seats k ≡ Some s → epoch ≡ p.epoch → n ≡ length ms
-    → at ≡ length js → seen ≡ commit → new ≡ js ++ with_entry (journal_at js y.journal) (record { commit = seen; names = names }) ∷ []
+    → world_of es ss ms ds js ≡ w → AreStored ss ds js → y ≡ x → x ≡ get_or ss k x → k < length w.seats → slice_get w.seats k ≡ Some s → epoch ≡ p.epoch_secret → n ≡ length ms
+    → at ≡ length js → seen ≡ commit → new ≡ js ++ with_entry (journal_at js y.journal) (record { commit = seen; named_messages = names }) ∷ []
     → said ≡ option_map (λ (v : X). (n + 1, f v)) o → before ≡ ds → after ≡ before ++ making k at epoch adds said ∷ []
     → messages ≡ ms ++ messages_with commit (option_map f o) → answered ≡ option_map (λ (bytes : List ℕ). n + 1) (option_map f o)
-    → record_commit w k s p.epoch (commit, option_map f o) names adds ≡ (reply.Commit n answered, world_of es ss messages after new)
+    → record_commit w k s p.epoch_secret (commit, option_map f o) names adds ≡ (reply.Commit n answered, world_of es ss messages after new)
 recorded_is f w es ss ms messages ds before after js new k at n x y s p commit seen o names adds epoch said answered same h is_x read lt found is count last sent journals numbers b a told replied =
     let j : Journal = journal_at js y.journal in
     let r : Option (List ℕ) = option_map f o in
     let seat : seat_of js y ≡ s = seat_is w es ss ms ds js k x y s same is_x read lt found in
     let here : n ≡ length w.messages = count ∙ ap (λ (v : World). length v.messages) same in
-    let e1 : record_commit w k s p.epoch (commit, r) names adds ≡ record_of w k s.journal p.epoch commit r names adds n = ap (λ (i : ℕ). record_of w k s.journal p.epoch commit r names adds i) (sym here) in
-    let e2 : record_of w k s.journal p.epoch commit r names adds n ≡ record_of w k j p.epoch commit r names adds n = ap (λ (z : Seat). record_of w k z.journal p.epoch commit r names adds n) (sym seat) in
-    let e3 : record_of w k j p.epoch commit r names adds n ≡ record_of w k j epoch commit r names adds n = ap (λ (z : List ℕ). record_of w k j z commit r names adds n) (sym is) in
+    let e1 : record_commit w k s p.epoch_secret (commit, r) names adds ≡ record_of w k s.journal p.epoch_secret commit r names adds n = ap (λ (i : ℕ). record_of w k s.journal p.epoch_secret commit r names adds i) (sym here) in
+    let e2 : record_of w k s.journal p.epoch_secret commit r names adds n ≡ record_of w k j p.epoch_secret commit r names adds n = ap (λ (z : Seat). record_of w k z.journal p.epoch_secret commit r names adds n) (sym seat) in
+    let e3 : record_of w k j p.epoch_secret commit r names adds n ≡ record_of w k j epoch commit r names adds n = ap (λ (z : List ℕ). record_of w k j z commit r names adds n) (sym is) in
     let made_is : after ≡ ds ++ making k at epoch adds said ∷ [] = a ∙ ap (λ (l : List Making). made_with l (making k at epoch adds said)) b in
     let e4 : recorded_with w k j commit names epoch adds (messages_with commit r) (numbered (n + 1) r) ≡ world_of es ss messages after new =
     world_is w es ss ms ds js new k at j commit seen names epoch adds (messages_with commit r) messages (numbered (n + 1) r) said after same h last sent (numbers ∙ fused f (n + 1) o) journals made_is told in
@@ -218,7 +218,7 @@ still_there c w mid k list path seed x lt h =
 pub whole_is : (c : Crypto) (w mid new : World) (k : ℕ) (items : List WorldItem) (path : Bool) (seed : List ℕ) (list : List ProposalOrRef) (x : List ℕ × Option (List ℕ)) (names adds : List (List ℕ)) (said : Reply)
     → k < length w.seats → items_of w items ≡ Ok list → commit_by c w k list path seed ≡ Ok (x, mid)
     → ((s : Seat) → slice_get w.seats k ≡ Some s → IsNamed s.member.kept list names adds)
-    → ((t : Seat) (p : Pending) → slice_get mid.seats k ≡ Some t → t.member.pending ≡ Some p → record_commit mid k t p.epoch x names adds ≡ (said, new))
+    → ((t : Seat) (p : Pending) → slice_get mid.seats k ≡ Some t → t.member.pending ≡ Some p → record_commit mid k t p.epoch_secret x names adds ≡ (said, new))
     → commit_answer c w k items path seed ≡ Ok (said, new)
 whole_is c w mid new k items path seed list x names adds said lt listed does named h =
     let s = there_of w.seats k lt in
@@ -234,9 +234,9 @@ undone c w mid kept new k list path seed x lt same does free h =
     (subst (λ (v : World). (t : Seat) → slice_get v.seats k ≡ Some t → new ≡ with_member v k t (without_pending t.member)) same h)
 
 -- lists, as they are lent
-pub listed_so : (w : World) (items : List WorldItem) (list lent : List Item) → lent ≡ list → items_of w items ≡ Ok (map listed_of list) → items_of w items ≡ Ok (map listed_of lent)
-listed_so w items list lent e h = subst (λ (l : List Item). items_of w items ≡ Ok (map listed_of l)) (sym e) h
+pub listed_so : (w : World) (items : List WorldItem) (list lent : List Item) → lent ≡ list → items_of w items ≡ Ok (map list_item_of list) → items_of w items ≡ Ok (map list_item_of lent)
+listed_so w items list lent e h = subst (λ (l : List Item). items_of w items ≡ Ok (map list_item_of l)) (sym e) h
 
 pub named_so : (w : World) (k : ℕ) (list lent other : List Item) (names adds : List (List ℕ)) → lent ≡ list → other ≡ list
-    → ((s : Seat) → slice_get w.seats k ≡ Some s → IsNamed s.member.kept (map listed_of lent) names adds) → (s : Seat) → slice_get w.seats k ≡ Some s → IsNamed s.member.kept (map listed_of other) names adds
-named_so w k list lent other names adds e d h = subst (λ (l : List Item). (s : Seat) → slice_get w.seats k ≡ Some s → IsNamed s.member.kept (map listed_of l) names adds) (e ∙ sym d) h
+    → ((s : Seat) → slice_get w.seats k ≡ Some s → IsNamed s.member.kept (map list_item_of lent) names adds) → (s : Seat) → slice_get w.seats k ≡ Some s → IsNamed s.member.kept (map list_item_of other) names adds
+named_so w k list lent other names adds e d h = subst (λ (l : List Item). (s : Seat) → slice_get w.seats k ≡ Some s → IsNamed s.member.kept (map list_item_of l) names adds) (e ∙ sym d) h

@@ -6,7 +6,7 @@ use Rattle.std.proofs.lemmas.List.{length-append, set-get_or, map-set}
 use Rattle.std.proofs.lemmas.Option.{slice_get-map, slice_get_read, slice_get_past}
 use Rattle.mls_model.specs.Journal.{Journal, CommitMade, with_entry}
 use Rattle.mls_model.specs.World.{Entrant, Seat}
-use Rattle.mls_world_plain.specs.StoredWorld.{before, latest, IsWithin, HasEntry, Seated, Making, seat_of, commit_made_of, world_of, AreStored}
+use Rattle.mls_world_plain.specs.StoredWorld.{journal_before, latest, IsWithin, HasEntry, Seated, Making, seat_of, commit_made_of, world_of, AreStored}
 use Rattle.mls_world_plain.proofs.JournalSteps.{journal_stays}
 
 -- ---- lists
@@ -30,7 +30,7 @@ abbrev the_seat : Seated → Journal → Seat
 the_seat s j = record { member = s.member; journal = j }
 
 abbrev the_made : Making → Journal → CommitMade
-the_made d j = record { maker = d.maker; journal = before j; entry = latest j; epoch = d.epoch; adds = d.adds; welcome = d.welcome }
+the_made d j = record { maker = d.maker; journal = journal_before j; entry = latest j; epoch_secret = d.epoch_secret; adds = d.adds; welcome = d.welcome }
 
 -- ---- more journals behind those that are there
 
@@ -40,7 +40,7 @@ within_more js more n lt = omega (arith, length-append js more)
 pub entry_more : (js more : List Journal) (n : ℕ) → HasEntry js n → HasEntry (js ++ more) n
 entry_more js more n h = record {
   within = within_more js more n h.within;
-  follows = subst (λ (j : Journal). with_entry (before j) (latest j) ≡ j) (sym (journal_stays js more n h.within)) h.follows;
+  follows = subst (λ (j : Journal). with_entry (journal_before j) (latest j) ≡ j) (sym (journal_stays js more n h.within)) h.follows;
 }
 
 pub seats_stay : (js more : List Journal) (ss : List Seated) → AllByRecursion (λ (s : Seated). IsWithin js s.journal) ss → map (seat_of (js ++ more)) ss ≡ map (seat_of js) ss

@@ -14,9 +14,9 @@ got [] i lt = absurd (omega (arith, lt))
 got (x ∷ xs) zero lt = (x, refl)
 got (x ∷ xs) (suc i) lt = got xs i (omega (arith, lt))
 
-pub join_made : (c : Crypto) (w new : World) (n k epoch i : ℕ) (source : Source) (bytes : List ℕ) (e : Entrant) (j : JoinedMember) → entrant_at w n ≡ Ok e → bytes_of w source ≡ Ok bytes → join_verdict c e.candidate bytes ≡ Ok j → commit_for_joiner w.made source e.candidate ≡ slice_get w.made i → i < length w.made → k ≡ length w.seats → epoch ≡ j.member.public.context.epoch
-    → ((x : Entrant) (d : CommitMade) → slice_get w.entrants n ≡ Some x → slice_get w.made i ≡ Some d → new ≡ with_new_member w n x (record { member = j.member; journal = with_entry d.journal d.entry }))
+pub join_made : (c : Crypto) (w new : World) (n k epoch i : ℕ) (source : Source) (bytes : List ℕ) (e : Entrant) (j : JoinedMember) → entrant_at w n ≡ Ok e → bytes_of w source ≡ Ok bytes → join_verdict c e.candidate bytes ≡ Ok j → commit_for_joiner w.commits source e.candidate ≡ slice_get w.commits i → i < length w.commits → k ≡ length w.seats → epoch ≡ j.member.public.context.epoch
+    → ((x : Entrant) (d : CommitMade) → slice_get w.entrants n ≡ Some x → slice_get w.commits i ≡ Some d → new ≡ with_new_member w n x (record { member = j.member; journal = with_entry d.journal d.entry }))
     → join_answer c w n source ≡ Ok (reply.Joined k epoch, new)
 join_made c w new n k epoch i source bytes e j there lent joined made lt at in_epoch h =
-    let d = got w.made i lt in
+    let d = got w.commits i lt in
     join_followed c w new n k epoch i source bytes e j d.0 there lent joined (made ∙ d.1) at in_epoch (λ x q. h x d.0 q d.1)

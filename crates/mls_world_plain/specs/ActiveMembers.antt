@@ -22,6 +22,7 @@ abbrev pub stays : Option Member → Bool
 stays (Some m) = not m.gone
 stays None = false
 
+-- whether member k is there and wasn't removed
 abbrev pub is_active : World → ℕ → Bool
 is_active w k = stays (seated_member w k)
 

@@ -1,5 +1,5 @@
--- What each call on a world does: its reply and the world after it, or the number of the first check that fails, and then the
--- world is as it was. Where memory was refused, the world is as it was, and nothing is said of the number.
+-- What each call on a world does: its reply and the world after it, or the number of the first check that fails, and
+-- then the world is as it was. Where memory was refused, the world is as it was, and nothing is said of the number.
 use Rattle.std.specs.Prelude.{ℕ, Bool, List, Option, option_map, Result, slice_get}
 use Rattle.mls_wire.specs.Checks.{Answers, AnswersOutright, DoesAs}
 use Rattle.mls_leaf.specs.declared.extension.Extension.{Extension}

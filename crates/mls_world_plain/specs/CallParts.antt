@@ -88,7 +88,7 @@ record_commit w k s epoch x names adds = (
   reply.Commit (length w.messages) (option_map (λ (bytes : List ℕ). length w.messages + 1) x.1),
   record w {
     messages = w.messages ++ messages_with x.0 x.1;
-    made = w.made ++ (record { maker = k; journal = s.journal; entry = record { commit = x.0; names = names }; epoch = epoch; adds = adds; welcome = option_map (λ bytes. (length w.messages + 1, bytes)) x.1 } ∷ []);
+    commits = w.commits ++ (record { maker = k; journal = s.journal; entry = record { commit = x.0; named_messages = names }; epoch_secret = epoch; adds = adds; welcome = option_map (λ bytes. (length w.messages + 1, bytes)) x.1 } ∷ []);
   },
 )
 

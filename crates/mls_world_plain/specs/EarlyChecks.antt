@@ -1,5 +1,5 @@
--- The checks of calls on a world that come before anything grows: the number of the first that fails is the call's, whatever
--- memory there is.
+-- The checks of calls on a world that come before anything grows: the number of the first that fails is the call's,
+-- whatever memory there is.
 use Rattle.std.specs.Prelude.{ℕ, List, [], ◌∷◌, Result, Ok}
 use Rattle.mls_wire.specs.Checks.{Passed, passed, require}
 use Rattle.mls_wire.specs.Reading.{◌>>=◌}
@@ -22,7 +22,8 @@ RefusesEarly checks result = RefusesOutright number_of checks result
 abbrev pub check_of : {A : Type 0} → Result A ℕ → Result Passed ℕ
 check_of r = r >>= λ x. Ok passed
 
--- the checks of an add: `NoSuchMember` (90), then `NoSuchMessage` (94), decoding and `WrongMessageKind` (95) of the source
+-- the checks of an add: `NoSuchMember` (90), then `NoSuchMessage` (94), decoding and `WrongMessageKind` (95) of the
+-- source
 unfoldable pub early_add_checks : World → ℕ → Source → Result Passed ℕ
 early_add_checks w k source = seat_at w k >>= λ s. check_of (package_of w source)
 

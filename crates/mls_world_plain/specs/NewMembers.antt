@@ -18,5 +18,5 @@ BeginsMember old new n member origin = (e : Entrant) → slice_get old.entrants 
 -- candidate n becomes a member, whose journal is that of a commit which was made
 abbrev pub FollowsMember : World → World → ℕ → Member → ℕ → Type 0
 FollowsMember old new n member made =
-    (e : Entrant) (d : CommitMade) → slice_get old.entrants n ≡ Some e → slice_get old.made made ≡ Some d
+    (e : Entrant) (d : CommitMade) → slice_get old.entrants n ≡ Some e → slice_get old.commits made ≡ Some d
     → new ≡ with_new_member old n e (record { member = member; journal = with_entry d.journal d.entry })

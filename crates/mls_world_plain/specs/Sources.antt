@@ -13,7 +13,7 @@ use Rattle.mls_view.specs.Shown.{ShowsPublic}
 use Rattle.mls_model.specs.declared.event.Source.{Source}
 use Rattle.mls_model.specs.declared.event.WorldItem.{WorldItem}
 use Rattle.mls_model.specs.declared.item.Item.{Item}
-use Rattle.mls_model.specs.Make.{listed_of}
+use Rattle.mls_model.specs.Make.{list_item_of}
 use Rattle.mls_model.specs.Messages.{decode_message, reference_of}
 use Rattle.mls_model.specs.World.{World, bytes_of, items_of, package_in, proposal_in, if_proposal}
 use Rattle.mls_world_plain.specs.declared.error.WorldError.{WorldError}
@@ -49,4 +49,4 @@ AnswersReference view result = (shown : PublicMessage) → ShowsPublic view show
 
 -- the items that a commit lists are answered
 abbrev pub AnswersItems : World → List WorldItem → Result (Vec Item) WorldError → Type 0
-AnswersItems w items result = Answers (λ (v : Vec Item). map listed_of v.items) number_of (items_of w items) result
+AnswersItems w items result = Answers (λ (v : Vec Item). map list_item_of v.items) number_of (items_of w items) result

@@ -13,12 +13,12 @@ unfoldable pub journal_at : List Journal → ℕ → Journal
 journal_at js n = get_or js n (new_journal (from.Creation 0))
 
 -- a journal before its latest entry
-abbrev pub before : Journal → Journal
-before j = record { origin = j.origin; entries = drop 1 j.entries }
+abbrev pub journal_before : Journal → Journal
+journal_before j = record { origin = j.origin; entries = drop 1 j.entries }
 
 -- the first of some entries, an empty one where there are none
 abbrev pub first_of : List Entry → Entry
-first_of [] = record { commit = []; names = [] }
+first_of [] = record { commit = []; named_messages = [] }
 first_of (e ∷ es) = e
 
 -- the latest entry of a journal
@@ -32,7 +32,7 @@ IsWithin js n = n < length js
 -- journal n is there and has an entry
 pub record HasEntry (js : List Journal) (n : ℕ) : Type 0 where
   pub within : n < length js
-  pub follows : with_entry (before (journal_at js n)) (latest (journal_at js n)) ≡ journal_at js n
+  pub follows : with_entry (journal_before (journal_at js n)) (latest (journal_at js n)) ≡ journal_at js n
 
 -- other journals stand behind these
 pub record AreMore (old new : List Journal) : Type 0 where
@@ -50,7 +50,7 @@ pub record Seated : Type 0 where
 pub record Making : Type 0 where
   pub maker : ℕ
   pub journal : ℕ
-  pub epoch : List ℕ
+  pub epoch_secret : List ℕ
   pub adds : List (List ℕ)
   pub welcome : Option (ℕ × List ℕ)
 
@@ -62,9 +62,9 @@ seat_of js s = record { member = s.member; journal = journal_at js s.journal }
 abbrev pub commit_made_of : List Journal → Making → CommitMade
 commit_made_of js d = record {
   maker = d.maker;
-  journal = before (journal_at js d.journal);
+  journal = journal_before (journal_at js d.journal);
   entry = latest (journal_at js d.journal);
-  epoch = d.epoch;
+  epoch_secret = d.epoch_secret;
   adds = d.adds;
   welcome = d.welcome;
 }
@@ -73,7 +73,7 @@ commit_made_of js d = record {
 
 -- the world that these parts stand for
 abbrev pub world_of : List Entrant → List Seated → List (List ℕ) → List Making → List Journal → World
-world_of entrants seats messages made js = record { entrants = entrants; seats = map (seat_of js) seats; messages = messages; made = map (commit_made_of js) made }
+world_of entrants seats messages made js = record { entrants = entrants; seats = map (seat_of js) seats; messages = messages; commits = map (commit_made_of js) made }
 
 -- members stand at journals, and records at journals with an entry
 pub record AreStored (ss : List Seated) (ds : List Making) (js : List Journal) : Type 0 where

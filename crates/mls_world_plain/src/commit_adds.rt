@@ -5,7 +5,7 @@ ghost use Rattle.std.specs.Option.{option_copied};
 ghost use Rattle.mls_leaf.specs.KeyPackage.{key_package};
 ghost use Rattle.mls_public_group.specs.ShortProposal.{IsShortProposal};
 ghost use Rattle.mls_member.specs.Answers.{IsShortItem, AreShortItems};
-ghost use Rattle.mls_model.specs.Make.{listed_of};
+ghost use Rattle.mls_model.specs.Make.{list_item_of};
 ghost use Rattle.mls_model.specs.Journal.{adds_in};
 ghost use Rattle.mls_model.specs.Proposals.{add_in};
 ghost use Rattle.mls_world_plain.specs.CommitItems.{proposal_for, with_package};
@@ -19,7 +19,7 @@ use std::alloc::{AllocError, Global};
 /// Finds what one of a commit's list says, by what a member keeps.
 fn proposal_for<'a, S: Suite>(member: &'a Member<S>, item: &'a Item) -> Option<&'a Proposal>
     requires { IsShortItem item.now }
-    ensures said { option_copied result ≡ proposal_for member.now.kept (listed_of item.now) }
+    ensures said { option_copied result ≡ proposal_for member.now.kept (list_item_of item.now) }
     ensures short { IfSome result (λ p. IsShortProposal p.now) }
 {
     match item {
@@ -64,7 +64,7 @@ pub(crate) fn added_by<S: Suite>(
     items: &[Item],
 ) -> Result<Vec<Bytes>, AllocError>
     requires { AreShortItems items.now }
-    ensures { IfOk result (λ v. v.items ≡ adds_in member.now.kept (map listed_of items.now)) }
+    ensures { IfOk result (λ v. v.items ≡ adds_in member.now.kept (map list_item_of items.now)) }
 {
     let mut adds = Vec::new(alloc);
     for item in items {

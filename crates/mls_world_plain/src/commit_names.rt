@@ -3,7 +3,7 @@
 ghost use Rattle.std.specs.Prelude.{◌≡◌, map, IfOk, OnOk};
 ghost use Rattle.std.specs.Option.{option_copied};
 ghost use Rattle.mls_types.specs.declared.commit.ProposalOrRef as listings;
-ghost use Rattle.mls_model.specs.Make.{listed_of};
+ghost use Rattle.mls_model.specs.Make.{list_item_of};
 ghost use Rattle.mls_model.specs.Journal.{names_in};
 ghost use Rattle.mls_world_plain.specs.CommitItems.{name_of, reference_listed, with_name};
 
@@ -36,7 +36,7 @@ impl Listed for ProposalOrRef {
 }
 
 impl Listed for Item {
-    ghost listed = { listed_of };
+    ghost listed = { list_item_of };
 
     fn reference(&self) -> Option<&[u8]> {
         match self {
@@ -51,7 +51,7 @@ fn name_of<'a, T: Listed, S: Suite>(member: &'a Member<S>, listed: &T) -> Option
     ensures { option_copied result ≡ name_of member.now.kept (T.listed listed.now) }
 {
     match listed.reference() {
-        Some(reference) => member.kept(reference),
+        Some(reference) => member.kept_message(reference),
         None => None,
     }
 }

@@ -117,7 +117,7 @@ impl<S: Suite> PlainWorld<S> {
         ensures err { OnErr result (self.new ≡ self.old) }
         ensures memory { IfErr result (λ e. number_of e ≡ 1) }
     {
-        let epoch = self.pending_epoch(k);
+        let epoch_secret = self.pending_epoch(k);
         self.messages.reserve(2)?;
         self.made.reserve(1)?;
         let message = self.messages.len();
@@ -129,7 +129,7 @@ impl<S: Suite> PlainWorld<S> {
         self.made.push_reserved(Making {
             maker: k,
             journal,
-            epoch,
+            epoch_secret,
             adds,
             welcome,
         });

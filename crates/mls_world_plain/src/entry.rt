@@ -18,7 +18,7 @@ impl Model for Entry {
 
     ghost Value = { model.Entry };
 
-    ghost view = { λ e. record { commit = e.commit; names = e.names.items } };
+    ghost view = { λ e. record { commit = e.commit; named_messages = e.names.items } };
 }
 
 impl Entry {
@@ -31,7 +31,7 @@ impl Entry {
 
     /// The messages of the proposals.
     pub fn names(&self) -> &[Bytes]
-        ensures { result.now ≡ self.now.names }
+        ensures { result.now ≡ self.now.named_messages }
     {
         &self.names
     }
@@ -39,7 +39,7 @@ impl Entry {
 
 /// How a journal begins, or goes on from one that stands before it in the store.
 #[derive(Drop)]
-pub(crate) enum Step {
+pub(crate) enum JournalStep {
     Begun(Origin),
     Followed { before: usize, entry: Entry },
 }

@@ -80,8 +80,8 @@ fn first_making_for(made: &[Making], source: &Source, offered: &[u8]) -> Option<
 impl<S: Suite> PlainWorld<S> {
     /// The number of the first commit whose Welcome that is and which adds the candidate's own KeyPackage.
     fn commit_for_joiner(&self, source: &Source, candidate: &Candidate<S>) -> Option<usize>
-        ensures first { IsForJoiner self.now.made source.now candidate.now result }
-        ensures there { IsThere self.now.made result }
+        ensures first { IsForJoiner self.now.commits source.now candidate.now result }
+        ensures there { IsThere self.now.commits result }
     {
         first_making_for(&self.made, source, package_of(candidate))
     }

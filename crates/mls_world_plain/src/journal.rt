@@ -6,7 +6,7 @@ ghost use Rattle.mls_model.specs.Journal as model;
 ghost use Rattle.mls_world_plain.specs.StoredWorld.{journal_at};
 ghost use Rattle.mls_world_plain.specs.JournalSteps.{earlier, journal_of, with_followed, GoesBack, HasStep, IsBefore, LosesLast};
 
-use crate::entry::{Entry, Step};
+use crate::entry::{Entry, JournalStep};
 use mls_model::Origin;
 use std::alloc::{AllocError, Global};
 use std::marker::Model;
@@ -14,7 +14,7 @@ use std::marker::Model;
 /// Journals by their numbers. Each is an origin, or one that stands before it with one more entry.
 #[derive(Drop)]
 pub(crate) struct Journals {
-    steps: Vec<Step>,
+    steps: Vec<JournalStep>,
 }
 
 impl Model for Journals {
@@ -43,7 +43,7 @@ impl Journals {
 
     /// Adds a journal, which begins here or goes on from one that is there.
     #[tactic(auto, using(crate::proofs::JournalSteps::one_more, crate::proofs::JournalSteps::as_many, crate::proofs::JournalSteps::goes_behind))]
-    fn add(&mut self, step: Step) -> Result<usize, AllocError>
+    fn add(&mut self, step: JournalStep) -> Result<usize, AllocError>
         requires { GoesBack (length self.old) step }
         ensures ok { OnOk result (self.new ≡ self.old ++ (journal_of self.old step ∷ [])) }
         ensures number { IfOk result (λ n. n ≡ length self.old) }
@@ -60,7 +60,7 @@ impl Journals {
         ensures number { IfOk result (λ n. n ≡ length self.old) }
         ensures err { OnErr result (self.new ≡ self.old) }
     {
-        self.add(Step::Begun(origin))
+        self.add(JournalStep::Begun(origin))
     }
 
     /// Adds a journal, which is journal `before` with an entry.
@@ -70,7 +70,7 @@ impl Journals {
         ensures number { IfOk result (λ n. n ≡ length self.old) }
         ensures err { OnErr result (self.new ≡ self.old) }
     {
-        self.add(Step::Followed { before, entry })
+        self.add(JournalStep::Followed { before, entry })
     }
 
     /// Takes back the last journal.
@@ -83,7 +83,7 @@ impl Journals {
     }
 
     /// The step of journal n.
-    fn step(&self, number: usize) -> &Step
+    fn step(&self, number: usize) -> &JournalStep
         requires { number < length self.now }
         ensures { HasStep self.now number result.now }
     {
@@ -98,8 +98,8 @@ impl Journals {
         let mut at = number;
         loop {
             match self.step(at) {
-                Step::Begun(origin) => return origin,
-                Step::Followed { before, entry: _ } => at = *before,
+                JournalStep::Begun(origin) => return origin,
+                JournalStep::Followed { before, entry: _ } => at = *before,
             }
         }
     }
@@ -110,8 +110,8 @@ impl Journals {
         ensures { option_copied result ≡ slice_get (journal_at self.now number).entries 0 }
     {
         match self.step(number) {
-            Step::Begun(_) => None,
-            Step::Followed { before: _, entry } => Some(entry),
+            JournalStep::Begun(_) => None,
+            JournalStep::Followed { before: _, entry } => Some(entry),
         }
     }
 
@@ -122,8 +122,8 @@ impl Journals {
         ensures { IsBefore self.now number result }
     {
         match self.step(number) {
-            Step::Begun(_) => None,
-            Step::Followed { before, entry: _ } => Some(*before),
+            JournalStep::Begun(_) => None,
+            JournalStep::Followed { before, entry: _ } => Some(*before),
         }
     }
 }

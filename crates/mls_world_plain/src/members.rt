@@ -80,7 +80,7 @@ impl<S: Suite> PlainWorld<S> {
         made: usize,
     ) -> Result<usize, AllocError>
         requires candidate { n < length self.old.entrants }
-        requires made { made < length self.old.made }
+        requires made { made < length self.old.commits }
         ensures ok { OnOk result (FollowsMember self.old self.new n member made) }
         ensures number { IfOk result (λ k. k ≡ length self.old.seats) }
         ensures err { OnErr result (self.new ≡ self.old) }

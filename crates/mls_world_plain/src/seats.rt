@@ -49,7 +49,7 @@ impl<S: Suite> Model for Seat<S> {
 pub(crate) struct Making {
     pub(crate) maker: usize,
     pub(crate) journal: usize,
-    pub(crate) epoch: Secret,
+    pub(crate) epoch_secret: Secret,
     pub(crate) adds: Vec<Bytes>,
     pub(crate) welcome: Option<(usize, Bytes)>,
 }
@@ -59,5 +59,5 @@ impl Model for Making {
 
     ghost Value = { stored.Making };
 
-    ghost view = { λ d. record { maker = d.maker; journal = d.journal; epoch = d.epoch; adds = d.adds.items; welcome = d.welcome } };
+    ghost view = { λ d. record { maker = d.maker; journal = d.journal; epoch_secret = d.epoch_secret; adds = d.adds.items; welcome = d.welcome } };
 }

@@ -5,7 +5,7 @@ ghost use Rattle.mls_wire.specs.Checks.{Answers};
 ghost use Rattle.mls_leaf.specs.KeyPackage.{key_package as key_package_format};
 ghost use Rattle.mls_public_group.specs.Short.{IsBelow};
 ghost use Rattle.mls_member.specs.Answers.{IsShortItem, AreShortItems};
-ghost use Rattle.mls_model.specs.Make.{listed_of};
+ghost use Rattle.mls_model.specs.Make.{list_item_of};
 ghost use Rattle.mls_model.specs.World as model;
 ghost use Rattle.mls_model.specs.declared.item.Item.TheVariants as item;
 ghost use Rattle.mls_leaf.specs.declared.proposal.Proposal.TheVariants as proposes;
@@ -125,7 +125,7 @@ impl<S: Suite> PlainWorld<S> {
     /// Makes the proposal that a commit lists: `NoSuchMessage` (94), decoding, `WrongMessageKind` (95), and of extensions
     /// `ExtensionNotAllowed` (14).
     fn item_of(&self, item: &WorldItem) -> Result<Item, WorldError>
-        ensures answer { Answers listed_of number_of (model.item_of self.now item.now) result }
+        ensures answer { Answers list_item_of number_of (model.item_of self.now item.now) result }
         ensures outright { RefusesEarly (model.item_of self.now item.now) result }
         ensures short { IfOk result (λ i. IsShortItem i) }
     {

@@ -21,7 +21,7 @@ decode_u-encode x =
     small : (n : ℕ) → n < prime → n % 2 ^ 255 ≡ n
     small n low = omega arith
 
-decode_nine : decode_u nine_bytes ≡ nine
+pub decode_nine : decode_u nine_bytes ≡ nine
 unfolding nine
 decode_nine = refl
 

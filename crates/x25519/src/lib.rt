@@ -13,7 +13,7 @@ ghost use Rattle.x25519.specs.Rfc7748.{nine_bytes, x25519_bytes, clear_cofactor_
 
 use field25519::{Element, Words};
 use ladder::Ladder;
-pub use laws::{exchange_law, high_order_law, nonzero_law};
+pub use laws::{exchange_law, high_order_law, nine_law, nonzero_law};
 
 /// The bytes of the base point's u-coordinate, 9.
 pub const BASE_POINT: [u8; 32] = [

@@ -1,10 +1,11 @@
-use Rattle.std.proofs.Common.{◌∙◌}
+use Rattle.std.proofs.Common.{subst}
+use Rattle.mls_candidate.specs.Leaves.{RenewsWithKey}
 use Rattle.mls_model.specs.Candidate.{leaf_key_of}
-use Rattle.mls_candidate.proofs.LeafLaws.{renewed_short}
 use Rattle.mls_candidate.proofs.leaf.renewed_leaf.Goals as goal
 
-pub sign_leaf-requires-clause-leaf : goal.sign_leaf-requires-clause-leaf
-sign_leaf-requires-clause-leaf g c =
-    let own = c.in_ok-signature_key.ensures.bytes ∙ c.as_slice.ensures in
-    renewed_short g.S.Suite.crypto g.met.S.Suite.lawful c.args.old.now c.in_ok-leaf.leaf (leaf_key_of g.S.Suite.crypto c.args.seed.now) c.in_ok-pk.field-0.pk.items c.in_ok-signature_key.signature_key c.in_ok-credential.credential c.args.source
-    c.in_ok-leaf.ensures c.in_ok-pk.ensures.public own c.in_ok-credential.ensures.cases c.requires.old c.source_has_spelling.ensures c.requires.source
+pub renewed_leaf_with_key-requires-clause-key : goal.renewed_leaf_with_key-requires-clause-key
+renewed_leaf_with_key-requires-clause-key g c = (leaf_key_of g.S.Suite.crypto c.args.seed.now, c.in_ok-pk.ensures.public)
+
+pub returns-clause-leaf : goal.returns-clause-leaf
+returns-clause-leaf g c =
+    subst (λ key. RenewsWithKey g.S.Suite.crypto c.args.signing.now c.args.group_id.now c.args.index c.args.old.now c.args.source key c.renewed_leaf_with_key.result) c.in_ok-pk.ensures.public c.renewed_leaf_with_key.ensures.leaf

@@ -1,12 +1,12 @@
 use Rattle.std.proofs.Common.{length}
-use Rattle.mls_wire.specs.CombineLaws.{forgotten}
-use Rattle.mls_wire.specs.Stateful.{run_at}
+use Rattle.mls_wire.specs.CombineReads.{without_value}
+use Rattle.mls_wire.specs.StatefulReads.{run_at}
 use Rattle.mls_leaf.proofs.RunLoops.{PastFrom}
-use Rattle.mls_leaf.specs.ParentNode.{rising}
+use Rattle.mls_leaf.specs.ParentNode.{rising_rule}
 use Rattle.mls_leaf.proofs.parent_node.check_rising.Given as goal
 
 abbrev pub invariant-loop-content : goal.invariant-loop-content
-invariant-loop-content l = PastFrom rising (forgotten (run_at rising (length l.fn.content) 0 l.fn.content)) l.least l.content
+invariant-loop-content l = PastFrom rising_rule (without_value (run_at rising_rule (length l.fn.content) 0 l.fn.content)) l.least l.content
 
 abbrev pub decreases-loop-content : goal.decreases-loop-content
 decreases-loop-content l = length l.content

@@ -39,13 +39,13 @@ with_welcome-requires-clause-leaves g c =
 pub with_welcome-requires-clause-seals : goal.with_welcome-requires-clause-seals
 with_welcome-requires-clause-seals g c =
     let commit = commit_of c.args.list (made_own_path c.args.own) in
-    first_below (path_seals c.args.own.path) _ c.path_seals-first_seal.result (seals_short c.requires.list.0 c.requires.list.1.0 commit c.args.used.now c.in_ok-sent.sent.change.edits.added c.in_ok-sent.ensures.short c.requires.list.1.1) c.path_seals-first_seal.ensures
+    first_below (path_seals c.args.own.path) _ c.path_seals-first_seal.result (seals_short c.requires.list.0 c.requires.list.1.0 commit c.args.used.now c.in_ok-sent.sent.outcome.change.edits.added c.in_ok-sent.ensures.short c.requires.list.1.1) c.path_seals-first_seal.ensures
 
 pub returns : goal.returns
 returns g c = λ m wants speaks own.
     let commit = commit_of c.args.list (made_own_path c.args.own) in
-    let seals = first_is (path_seals c.args.own.path) _ c.path_seals-first_seal.result (seals_short c.requires.list.0 c.requires.list.1.0 commit c.args.used.now c.in_ok-sent.sent.change.edits.added c.in_ok-sent.ensures.short c.requires.list.1.1) c.path_seals-first_seal.ensures in
+    let seals = first_is (path_seals c.args.own.path) _ c.path_seals-first_seal.result (seals_short c.requires.list.0 c.requires.list.1.0 commit c.args.used.now c.in_ok-sent.sent.outcome.change.edits.added c.in_ok-sent.ensures.short c.requires.list.1.1) c.path_seals-first_seal.ensures in
     rw (sending_goes g.S.Suite.crypto m c.args.list c.args.used.now c.args.edits (term c.args.own.tree) (made_own_path c.args.own) c.args.seed.now wants (sent_as c.in_ok-sent.sent) c.args.extensions.now
     (carried_as m c.args.speaker.now c.args.used.now c.args.extensions.now speaks c.requires.carried) own.own.edits own.own.path own.merges (c.in_ok-sent.ensures.answer m speaks))
     (c.with_welcome.ensures m wants (made_own_path c.args.own) speaks
-    (own_from g.S.Suite.crypto m c.args.used.now c.args.edits c.in_ok-sent.sent.change.edits wants c.args.seed.now (made_own_path c.args.own) c.args.own.secrets _ c.args.own.keys own.own c.in_ok-sent.ensures.edits c.as_ref-secrets.ensures.value) seals)
+    (own_from g.S.Suite.crypto m c.args.used.now c.args.edits c.in_ok-sent.sent.outcome.change.edits wants c.args.seed.now (made_own_path c.args.own) c.args.own.secrets _ c.args.own.keys own.own c.in_ok-sent.ensures.edits c.as_ref-secrets.ensures.value) seals)

@@ -5,7 +5,7 @@ use Rattle.mls_leaf.specs.declared.extension.Extension.{Extension}
 use Rattle.mls_public_group.specs.Faults.{number_of as number_of_group}
 use Rattle.mls_public_group.specs.Short.{IsBelow}
 use Rattle.mls_make.specs.CommitCall.{AreShortUsed}
-use Rattle.mls_make.specs.CommitSteps.{carried_after, path_with}
+use Rattle.mls_model.specs.Make.{carried_after, path_with}
 use Rattle.mls_make.specs.Faults.{number_of}
 use Rattle.mls_make.specs.OwnPath.{made_own_path}
 use Rattle.mls_make.proofs.Steps.{path_fails, made_by_is}

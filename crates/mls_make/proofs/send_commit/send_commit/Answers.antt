@@ -22,21 +22,21 @@ returns-in_err-message-clause-answer g c =
     rw (p.1, p.2) (λ m speaks other.
     sent_fails g.S.Suite.crypto m c.args.speaker.now c.args.extensions.now c.args.commit c.args.edits (term c.args.tree) c.args.commit_secret.now speaks c.in_ok-framed.framed (c.in_ok-framed.ensures m speaks)
     c.in_ok-draft.draft.signature.items (c.in_ok-draft.ensures.signature m speaks) (framed_content.spell c.in_ok-framed.framed) c.in_ok-draft.draft.signature.items refl refl
-    c.in_ok-draft.draft.change c.in_ok-draft.ensures.change c.in_ok-draft.draft.begun.joiner c.in_ok-draft.draft.begun.epoch c.in_ok-draft.draft.begun.tag
+    c.in_ok-draft.draft.outcome.change c.in_ok-draft.ensures.change c.in_ok-draft.draft.begun.joiner c.in_ok-draft.draft.begun.epoch c.in_ok-draft.draft.begun.tag
     c.in_ok-draft.ensures.joiner c.in_ok-draft.ensures.epoch c.in_ok-draft.ensures.tag (number_of_leaf c.in_err-message.field-0.0) (c.in_err-message.ensures m speaks other))
 
 pub returns-clause-answer : goal.returns-clause-answer
 returns-clause-answer g c = λ m speaks.
     sent_done g.S.Suite.crypto m c.args.speaker.now c.args.extensions.now c.args.commit c.args.edits (term c.args.tree) c.args.commit_secret.now speaks c.in_ok-framed.framed (c.in_ok-framed.ensures m speaks)
     c.in_ok-draft.draft.signature.items (c.in_ok-draft.ensures.signature m speaks) (framed_content.spell c.in_ok-framed.framed) c.in_ok-draft.draft.signature.items refl refl
-    c.in_ok-draft.draft.change c.in_ok-draft.ensures.change c.in_ok-draft.draft.begun.joiner c.in_ok-draft.draft.begun.epoch c.in_ok-draft.draft.begun.tag
+    c.in_ok-draft.draft.outcome.change c.in_ok-draft.ensures.change c.in_ok-draft.draft.begun.joiner c.in_ok-draft.draft.begun.epoch c.in_ok-draft.draft.begun.tag
     c.in_ok-draft.ensures.joiner c.in_ok-draft.ensures.epoch c.in_ok-draft.ensures.tag c.in_ok-message.message.items (c.in_ok-message.ensures m speaks)
 
 pub returns-clause-short : goal.returns-clause-short
 returns-clause-short g c = c.know_short_commit.ensures c.args.commit c.in_ok-framed.ensures
 
 pub returns-clause-edits : goal.returns-clause-edits
-returns-clause-edits g c = edits_are c.args.speaker.now.group.now c.args.extensions.now c.args.edits (term c.args.tree) (framed_content.spell c.in_ok-framed.framed) c.in_ok-draft.draft.signature.items c.in_ok-draft.draft.change c.in_ok-draft.ensures.change
+returns-clause-edits g c = edits_are c.args.speaker.now.group.now c.args.extensions.now c.args.edits (term c.args.tree) (framed_content.spell c.in_ok-framed.framed) c.in_ok-draft.draft.signature.items c.in_ok-draft.draft.outcome.change c.in_ok-draft.ensures.change
 
 pub returns-clause-tree : goal.returns-clause-tree
-returns-clause-tree g c = tree_is c.args.speaker.now.group.now c.args.extensions.now c.args.edits (term c.args.tree) (framed_content.spell c.in_ok-framed.framed) c.in_ok-draft.draft.signature.items c.in_ok-draft.draft.change c.in_ok-draft.ensures.change
+returns-clause-tree g c = tree_is c.args.speaker.now.group.now c.args.extensions.now c.args.edits (term c.args.tree) (framed_content.spell c.in_ok-framed.framed) c.in_ok-draft.draft.signature.items c.in_ok-draft.draft.outcome.change c.in_ok-draft.ensures.change

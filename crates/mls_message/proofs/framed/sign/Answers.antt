@@ -3,12 +3,12 @@ use Rattle.std.specs.Prelude.{codes}
 use Rattle.std.specs.Global.{Vec}
 use Rattle.mls_types.specs.GroupContext.{group_context}
 use Rattle.mls_types.specs.Content.{framed_content}
+use Rattle.mls_types.specs.Signing.{signed_pieces}
 use Rattle.mls_types.specs.declared.content.FramedContent.{FramedContent}
 use Rattle.mls_suite.specs.Crypto.{Crypto}
 use Rattle.mls_suite.specs.Labels.{sign_with_label}
 use Rattle.mls_model.specs.Member.{Member}
 use Rattle.mls_model.specs.Messages.{content_signature}
-use Rattle.mls_message.specs.Pieces.{signed_pieces}
 use Rattle.mls_message.specs.Speaks.{Speaks}
 use Rattle.mls_message.specs.declared.speaker.Speaker.{Speaker}
 use Rattle.mls_message.proofs.TextLaws.{signed_is}

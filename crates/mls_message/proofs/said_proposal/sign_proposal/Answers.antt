@@ -2,7 +2,7 @@ use Rattle.std.proofs.Common.{◌≡◌, ℕ, List, [], refl, subst, ◌∙◌}
 use Rattle.mls_wire.specs.Checks.{Answers}
 use Rattle.mls_leaf.specs.Faults.{number_of}
 use Rattle.mls_leaf.specs.declared.proposal.Proposal.{Proposal}
-use Rattle.mls_types.specs.SignedParts.{signed_with}
+use Rattle.mls_types.specs.SignedParts.{with_signature}
 use Rattle.mls_types.specs.declared.content.Content.TheVariants as says
 use Rattle.mls_types.specs.declared.content.FramedContent.{FramedContent}
 use Rattle.mls_types.specs.declared.signed.SignedContent.{SignedContent}
@@ -15,7 +15,7 @@ use Rattle.mls_message.specs.declared.said_proposal.SaidProposal.{SaidProposal}
 use Rattle.mls_message.proofs.said_proposal.sign_proposal.Goals as goal
 
 -- a member's proposal is its content, signed
-signed_said : (c : Crypto) (m : Member) (x : Proposal) (framed : FramedContent) (v : SignedContent) → v ≡ signed_with framed (content_signature c m.signing framed m.public.context) [] → framed ≡ content_by m (says.Proposal x) → v ≡ proposal_by c m x
+signed_said : (c : Crypto) (m : Member) (x : Proposal) (framed : FramedContent) (v : SignedContent) → v ≡ with_signature framed (content_signature c m.signing framed m.public.context) [] → framed ≡ content_by m (says.Proposal x) → v ≡ proposal_by c m x
 unfolding proposal_by
 signed_said c m x framed v e f = e ∙ rw f refl
 

@@ -5,7 +5,7 @@ use Rattle.mls_tree_model.specs.Inputs.{leaf_hash}
 use Rattle.mls_tree_array.specs.KeptHashes.{Keeps}
 use Rattle.mls_tree_array.proofs.Readings.{in_parts, in_sides}
 use Rattle.mls_tree_array.proofs.Hashed.{hash_one, hash_sides}
-use Rattle.mls_tree_array.proofs.Ties.{left_shape, right_shape, left_count, right_count}
+use Rattle.mls_tree_array.proofs.Hashings.{left_shape, right_shape, left_count, right_count}
 use Rattle.mls_tree_array.proofs.KeptOrDropped.{leaf_warm, root_warm, leaf_value, leaf_made, leaf_counts, branch_value, branch_made, branch_counts, none_missing, left_kept, right_kept, behind_first}
 use Rattle.mls_tree_array.proofs.hashes.+tree_hash.Goals as goal
 

@@ -1,4 +1,4 @@
-use Rattle.std.proofs.Common.{arith, sym, ◌∙◌, ◌-◌}
+use Rattle.std.proofs.Common.{arith, sym, ◌∙◌}
 use Rattle.std.proofs.lemmas.Nat.{one_shl}
 use Rattle.mls_tree_array.proofs.Blanks.{side_nodes, has_sides, has_left}
 use Rattle.mls_tree_array.proofs.members.+has_leaf.Goals as goal

@@ -1,4 +1,4 @@
-use Rattle.std.proofs.Common.{Some, None, ◌∙◌, sym, ap, is_some}
+use Rattle.std.proofs.Common.{Some, None, ◌∙◌, ap, is_some}
 use Rattle.mls_tree_array.proofs.Blanks.{first_leaf}
 use Rattle.mls_tree_array.proofs.members.begins_with_leaf.Goals as goal
 

@@ -1,17 +1,12 @@
-use Rattle.std.proofs.Common.{◌+◌, ◌/◌, arith, sym}
-use Rattle.mls_tree_array.proofs.Readings.{in_sides}
-use Rattle.mls_tree_array.proofs.Merged.{length_no_more, length_in_left, length_in_right, bit_counts}
+use Rattle.std.proofs.Common.{sym}
+use Rattle.mls_tree_model.proofs.Equations.{path_length_leaf}
+use Rattle.mls_tree_array.proofs.Merged.{bit_counts}
+use Rattle.mls_tree_array.proofs.StepLaws.{length_step}
 use Rattle.mls_tree_array.proofs.merging.+path_length.Goals as goal
 
-pub returns-then-height-eq0-clause-value : goal.returns-then-height-eq0-clause-value
-returns-then-height-eq0-clause-value t c = sym (length_no_more c.args.first c.args.height c.args.leaf c.args.nodes.now c.if-height-eq0.true)
+pub returns-in-None-clause-value : goal.returns-in-None-clause-value
+returns-in-None-clause-value t c = rw c.in-None.ensures.1 (sym (path_length_leaf _ _ _))
 
-pub returns-then-leaf-second-clause-value : goal.returns-then-leaf-second-clause-value
-returns-then-leaf-second-clause-value t c =
-    let parts = in_sides _ _ c.args.nodes.now c.middle_of-middle.ensures (omega arith) in
-    rw (length_in_left c.args.first _ _ c.args.leaf _ _ parts c.if-leaf-second.true, ← c.path_length.ensures.value, ← c.is_reached.ensures (c.args.first + (c.middle_of-middle.result / 2 + 1)), c.from.ensures) (bit_counts _ _)
-
-pub returns-else-leaf-second-clause-value : goal.returns-else-leaf-second-clause-value
-returns-else-leaf-second-clause-value t c =
-    let parts = in_sides _ _ c.args.nodes.now c.middle_of-middle.ensures (omega arith) in
-    rw (length_in_right c.args.first _ _ c.args.leaf _ _ parts c.if-leaf-second.false, ← c.path_length-else-leaf-second.ensures.value, ← c.is_reached-else-leaf-second.ensures c.args.first, c.from-else-leaf-second.ensures) (bit_counts _ _)
+pub returns-in-Some-clause-value : goal.returns-in-Some-clause-value
+returns-in-Some-clause-value t c =
+    rw (length_step c.args.tree.now c.args.leaf c.in-Some.step.side _ c.in-Some.step.other c.in-Some.ensures, ← c.path_length.ensures.value, ← c.is_reached.ensures c.in-Some.step.other.first, c.from.ensures) (bit_counts _ _)

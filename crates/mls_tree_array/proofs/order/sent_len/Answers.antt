@@ -1,5 +1,5 @@
 use Rattle.std.proofs.Common.{◌≡◌, arith, sym, ◌∙◌, ap, take}
-use Rattle.mls_tree_model.specs.Arrays.{cut}
+use Rattle.mls_tree_model.specs.Arrays.{without_last_blanks}
 use Rattle.mls_tree_array.proofs.Sent.{cut-front, cut-back, cut-none}
 use Rattle.mls_tree_array.proofs.order.sent_len.Goals as goal
 
@@ -18,4 +18,4 @@ loop-len-preserved c = (
 pub returns-clause-cut : goal.returns-clause-cut
 returns-clause-cut c =
     let none : c.loop-len.len ≡ 0 = omega arith in
-    sym (sym c.loop-len.invariant.1 ∙ ap (λ k. cut (take k c.args.nodes.now)) none ∙ cut-none)
+    sym (sym c.loop-len.invariant.1 ∙ ap (λ k. without_last_blanks (take k c.args.nodes.now)) none ∙ cut-none)

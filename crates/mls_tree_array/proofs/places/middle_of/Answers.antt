@@ -1,4 +1,4 @@
-use Rattle.mls_tree_array.proofs.Parts.{middle_of}
+use Rattle.mls_tree_array.proofs.Middles.{middle_of}
 use Rattle.mls_tree_array.proofs.places.middle_of.Goals as goal
 
 pub returns : goal.returns

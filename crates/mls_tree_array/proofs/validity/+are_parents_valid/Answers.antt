@@ -1,42 +1,42 @@
-use Rattle.std.proofs.Common.{◌≡◌, ◌+◌, ◌/◌, arith, sym}
+use Rattle.std.proofs.Common.{◌≡◌, arith, sym, refl}
 use Rattle.mls_tree_model.specs.Lists.{all_parents}
 use Rattle.mls_tree_model.specs.Hashes.{is_parent_hash_valid}
-use Rattle.mls_tree_model.specs.Arrays.{term_of}
-use Rattle.mls_tree_array.proofs.Readings.{right_side, in_sides}
-use Rattle.mls_tree_array.proofs.Listed.{each_leaf}
-use Rattle.mls_tree_array.proofs.Splitting.{right_lists}
-use Rattle.mls_tree_array.proofs.Ties.{ok_map, left_shape, right_shape, left_count, right_count, left_hashes, right_hashes, not_root, not_left, then_right}
+use Rattle.mls_tree_model.proofs.Equations.{all_parents_leaf}
+use Rattle.mls_tree_array.proofs.Sides.{second, each_sides}
+use Rattle.mls_tree_array.proofs.Splitting.{side_lists}
+use Rattle.mls_tree_array.proofs.Ties.{ok_map}
 use Rattle.mls_tree_array.proofs.validity.+are_parents_valid.Goals as goal
 
-pub returns-then-height-eq0 : goal.returns-then-height-eq0
-returns-then-height-eq0 t c = sym (each_leaf is_parent_hash_valid c.args.first _ c.args.nodes.now c.if-height-eq0.true)
+pub returns-in-Leaf : goal.returns-in-Leaf
+returns-in-Leaf t c = rw c.in-Leaf.ensures (sym (all_parents_leaf c.args.tree.now.first _ is_parent_hash_valid))
+
+pub is_root_valid-requires : goal.is_root_valid-requires
+is_root_valid-requires t c =
+    let lists = side_lists c.args.tree.now c.in-Branch.left _ c.in-Branch.right c.in-Branch.ensures c.requires in
+    record { middle = second c.args.tree.now c.in-Branch.left _ c.in-Branch.right c.in-Branch.ensures; left = lists.0; right = lists.1 }
 
 pub are_parents_valid-requires : goal.are_parents_valid-requires
 are_parents_valid-requires t c =
-    let parts = in_sides _ _ c.args.nodes.now c.middle_of-middle.ensures (omega arith) in
-    (omega arith, (left_shape c.args.height c.middle_of-middle.result c.args.nodes.now c.args.hashes.now c.middle_of-middle.ensures (omega arith) (omega arith), (left_count c.args.height c.middle_of-middle.result c.args.nodes.now c.args.hashes.now c.middle_of-middle.ensures (omega arith) (omega arith), (omega arith, (left_hashes c.args.first c.args.height c.middle_of-middle.result c.args.nodes.now c.args.hashes.now c.middle_of-middle.ensures (omega arith) c.requires.shape c.requires.hashed, (right_lists _ _ _ _ parts c.args.first c.requires.lists).0)))))
+    let over = c.in-Branch.ensures in
+    (omega arith, (side_lists c.args.tree.now c.in-Branch.left _ c.in-Branch.right c.in-Branch.ensures c.requires).0)
 
-pub are_parents_valid-requires-2 : goal.are_parents_valid-requires-2
-are_parents_valid-requires-2 t c =
-    let parts = in_sides _ _ c.args.nodes.now c.middle_of-middle.ensures (omega arith) in
-    (omega arith, (right_shape c.args.height c.middle_of-middle.result c.args.nodes.now c.args.hashes.now c.middle_of-middle.ensures (omega arith) (omega arith), (right_count c.args.height c.middle_of-middle.result c.args.nodes.now c.args.hashes.now c.middle_of-middle.ensures (omega arith) (omega arith), (omega arith, (right_hashes c.args.first c.args.height c.middle_of-middle.result c.args.nodes.now c.args.hashes.now c.middle_of-middle.ensures (omega arith) c.requires.shape c.requires.hashed, (right_lists _ _ _ _ parts c.args.first c.requires.lists).1)))))
+pub are_parents_valid-requires-in-Branch : goal.are_parents_valid-requires-in-Branch
+are_parents_valid-requires-in-Branch t c =
+    let over = c.in-Branch.ensures in
+    (omega arith, (side_lists c.args.tree.now c.in-Branch.left _ c.in-Branch.right c.in-Branch.ensures c.requires).1)
 
 pub returns-then-not-branch : goal.returns-then-not-branch
-returns-then-not-branch t c =
-    let parts = in_sides _ _ c.args.nodes.now c.middle_of-middle.ensures (omega arith) in
-    not_root is_parent_hash_valid c.args.first _ _ _ _ parts _ (c.in_ok-is_root_valid.ensures _ _ _ parts.is) c.if-not-branch.true
+returns-then-not-branch t c = rw (each_sides c.args.tree.now c.in-Branch.left _ c.in-Branch.right c.in-Branch.ensures is_parent_hash_valid, ← c.in_ok-is_root_valid-in-Branch.ensures, c.if-not-branch.true) refl
 
 pub returns-then-not-branch-2 : goal.returns-then-not-branch-2
 returns-then-not-branch-2 t c =
-    let parts = in_sides _ _ c.args.nodes.now c.middle_of-middle.ensures (omega arith) in
-    not_left is_parent_hash_valid c.args.first _ _ _ _ parts _ (c.in_ok-is_root_valid.ensures _ _ _ parts.is) _ c.if-not-branch.false c.in_ok-are_parents_valid.ensures c.if-not-branch-2.true
+    rw (each_sides c.args.tree.now c.in-Branch.left _ c.in-Branch.right c.in-Branch.ensures is_parent_hash_valid, ← c.in_ok-is_root_valid-in-Branch.ensures, c.if-not-branch.false, ← c.in_ok-are_parents_valid-in-Branch.ensures, c.if-not-branch-2.true) refl
 
-pub returns : goal.returns
-returns t c =
-    let parts = in_sides _ _ c.args.nodes.now c.middle_of-middle.ensures (omega arith) in
+pub returns-else-not-branch-2 : goal.returns-else-not-branch-2
+returns-else-not-branch-2 t c =
     ok_map
-    (λ v. v ≡ all_parents is_parent_hash_valid (c.args.first + (c.middle_of-middle.result / 2 + 1)) (right_side c.args.height c.middle_of-middle.result c.args.nodes.now))
-    (λ v. v ≡ all_parents is_parent_hash_valid c.args.first (term_of c.args.height c.args.nodes.now))
-    c.are_parents_valid-2.result
-    (λ v right. then_right is_parent_hash_valid c.args.first _ _ _ _ parts _ (c.in_ok-is_root_valid.ensures _ _ _ parts.is) _ _ c.if-not-branch.false c.in_ok-are_parents_valid.ensures c.if-not-branch-2.false right)
-    c.are_parents_valid-2.ensures
+    (λ v. v ≡ all_parents is_parent_hash_valid c.in-Branch.right.first c.in-Branch.right.term)
+    (λ v. v ≡ all_parents is_parent_hash_valid c.args.tree.now.first c.args.tree.now.term)
+    c.are_parents_valid-in-Branch.result
+    (λ v right. rw (each_sides c.args.tree.now c.in-Branch.left _ c.in-Branch.right c.in-Branch.ensures is_parent_hash_valid, ← c.in_ok-is_root_valid-in-Branch.ensures, c.if-not-branch.false, ← c.in_ok-are_parents_valid-in-Branch.ensures, c.if-not-branch-2.false) right)
+    c.are_parents_valid-in-Branch.ensures

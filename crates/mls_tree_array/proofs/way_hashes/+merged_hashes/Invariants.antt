@@ -1,4 +1,5 @@
+use Rattle.mls_tree_model.specs.Term.{height}
 use Rattle.mls_tree_array.proofs.way_hashes.+merged_hashes.Given as goal
 
 abbrev pub decreases-merged_hashes : goal.decreases-merged_hashes
-decreases-merged_hashes l = l.height
+decreases-merged_hashes l = height l.tree.now.term

@@ -10,12 +10,12 @@ returns-in_err-text-clause-refused g c =
     let p = err_from_is_err_and c.from_residual.result c.from_residual.ensures.1 in
     rw (p.1, p.2) (λ other. tbs_refused g.S.Suite.crypto c.args.signing.now c.args.info.now c.requires c.in_err-text.field-0.0 c.in_err-text.ensures other)
 
-pub returns-in_err-is_within_limit-clause-refused : goal.returns-in_err-is_within_limit-clause-refused
-returns-in_err-is_within_limit-clause-refused g c =
-    let p = err_from_is_err_and c.from_residual-in_err-is_within_limit.result c.from_residual-in_err-is_within_limit.ensures.1 in
+pub returns-in_err-require_within_limit-clause-refused : goal.returns-in_err-require_within_limit-clause-refused
+returns-in_err-require_within_limit-clause-refused g c =
+    let p = err_from_is_err_and c.from_residual-in_err-require_within_limit.result c.from_residual-in_err-require_within_limit.ensures.1 in
     rw (p.1, p.2) (λ other.
-    signed_long g.S.Suite.crypto c.args.signing.now c.args.info.now (subst (λ (l : List ℕ). input_limit < length l) (c.deref.ensures.value ∙ c.in_ok-text.ensures.1) c.in_err-is_within_limit.ensures.length.1)
-    ∙ ap Err (sym c.in_err-is_within_limit.ensures.length.0))
+    signed_long g.S.Suite.crypto c.args.signing.now c.args.info.now (subst (λ (l : List ℕ). input_limit < length l) (c.deref.ensures.value ∙ c.in_ok-text.ensures.1) c.in_err-require_within_limit.ensures.length.1)
+    ∙ ap Err (sym c.in_err-require_within_limit.ensures.length.0))
 
 pub returns-clause-signature : goal.returns-clause-signature
 returns-clause-signature g c =

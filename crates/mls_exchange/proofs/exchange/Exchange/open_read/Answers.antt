@@ -35,7 +35,7 @@ returns-in_err-draft g c =
     let p = err_from_is_err_and c.from_residual-in_err-draft.result c.from_residual-in_err-draft.ensures.1 in
     rw (p.1, p.2) (λ memory.
     no_key g.S.Suite.crypto c.args.self.now c.args.message c.in_ok-sender.sender c.in-Some.leaf.now _ c.in_ok-check_place.ensures sent stands
-    (ap (λ (x : State). draft_key x.keys i k) (sym c.self.view_is) ∙ c.in_err-draft.ensures memory))
+    (ap (λ (x : State). draft_key x.keys i k) (sym c.self.view_is) ∙ c.in_err-draft.ensures.answer memory))
 
 pub returns-in_err-content : goal.returns-in_err-content
 returns-in_err-content g c =
@@ -43,7 +43,7 @@ returns-in_err-content g c =
     let k = c.in_ok-sender.sender.generation in
     let sent = ap (λ (x : State). open_sender_data g.S.Suite.crypto x.sender_data_secret c.args.message) (sym c.self.view_is) ∙ c.in_ok-sender.ensures in
     let stands = ap (λ (x : State). member_at x.nodes i) (sym c.self.view_is) ∙ ap (λ n. member_at n i) (sym c.deref.ensures.value) ∙ sym c.in-Some.ensures in
-    let drafted = ap (λ (x : State). draft_key x.keys i k) (sym c.self.view_is) ∙ c.in_ok-draft.ensures in
+    let drafted = ap (λ (x : State). draft_key x.keys i k) (sym c.self.view_is) ∙ c.in_ok-draft.ensures.answer in
     let p = err_from_is_err_and c.from_residual-in_err-content.result c.from_residual-in_err-content.ensures.1 in
     rw (p.1, p.2) (λ memory.
     no_content g.S.Suite.crypto c.args.self.now c.args.message c.in_ok-sender.sender c.in-Some.leaf.now c.in_ok-draft.draft _ c.in_ok-check_place.ensures sent stands drafted
@@ -55,7 +55,7 @@ returns-in_err-application_data g c =
     let k = c.in_ok-sender.sender.generation in
     let sent = ap (λ (x : State). open_sender_data g.S.Suite.crypto x.sender_data_secret c.args.message) (sym c.self.view_is) ∙ c.in_ok-sender.ensures in
     let stands = ap (λ (x : State). member_at x.nodes i) (sym c.self.view_is) ∙ ap (λ n. member_at n i) (sym c.deref.ensures.value) ∙ sym c.in-Some.ensures in
-    let drafted = ap (λ (x : State). draft_key x.keys i k) (sym c.self.view_is) ∙ c.in_ok-draft.ensures in
+    let drafted = ap (λ (x : State). draft_key x.keys i k) (sym c.self.view_is) ∙ c.in_ok-draft.ensures.answer in
     let content =
     ap (λ (x : MessageKey). open_content g.S.Suite.crypto x c.in_ok-sender.sender.reuse_guard c.args.message) (sym c.key.ensures) ∙ c.in_ok-content.ensures in
     let p = err_from_is_err_and c.from_residual-in_err-application_data.result c.from_residual-in_err-application_data.ensures.1 in
@@ -69,7 +69,7 @@ returns g c =
     let k = c.in_ok-sender.sender.generation in
     let sent = ap (λ (x : State). open_sender_data g.S.Suite.crypto x.sender_data_secret c.args.message) (sym c.self.view_is) ∙ c.in_ok-sender.ensures in
     let stands = ap (λ (x : State). member_at x.nodes i) (sym c.self.view_is) ∙ ap (λ n. member_at n i) (sym c.deref.ensures.value) ∙ sym c.in-Some.ensures in
-    let drafted = ap (λ (x : State). draft_key x.keys i k) (sym c.self.view_is) ∙ c.in_ok-draft.ensures in
+    let drafted = ap (λ (x : State). draft_key x.keys i k) (sym c.self.view_is) ∙ c.in_ok-draft.ensures.answer in
     let content =
     ap (λ (x : MessageKey). open_content g.S.Suite.crypto x c.in_ok-sender.sender.reuse_guard c.args.message) (sym c.key.ensures) ∙ c.in_ok-content.ensures in
     opens g.S.Suite.crypto c.args.self.now c.args.message c.in_ok-sender.sender c.in-Some.leaf.now c.in_ok-draft.draft c.in_ok-content.content.items

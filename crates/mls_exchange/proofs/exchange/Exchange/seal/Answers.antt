@@ -20,13 +20,13 @@ returns-in_err-draft-clause-answer g c =
     rw (p.1, p.2) (
       refl,
       λ memory. without_key g.S.Suite.crypto c.args.self.now c.args.application_data.now c.args.authenticated_data.now c.args.padding c.args.seed.now k _ c.in_ok-generation.ensures
-          (ap (λ (x : State). draft_key x.keys x.leaf k) (sym c.self.view_is) ∙ c.in_err-draft.ensures memory),
+          (ap (λ (x : State). draft_key x.keys x.leaf k) (sym c.self.view_is) ∙ c.in_err-draft.ensures.answer memory),
     )
 
 pub returns-in_err-content-clause-answer : goal.returns-in_err-content-clause-answer
 returns-in_err-content-clause-answer g c =
     let k = c.in_ok-generation.generation in
-    let drafted = ap (λ (x : State). draft_key x.keys x.leaf k) (sym c.self.view_is) ∙ c.in_ok-draft.ensures in
+    let drafted = ap (λ (x : State). draft_key x.keys x.leaf k) (sym c.self.view_is) ∙ c.in_ok-draft.ensures.answer in
     let p = err_from_is_err_and c.from_residual-in_err-content.result c.from_residual-in_err-content.ensures.1 in
     rw (p.1, p.2) (
       refl,
@@ -37,7 +37,7 @@ returns-in_err-content-clause-answer g c =
 pub returns-in_err-message-clause-answer : goal.returns-in_err-message-clause-answer
 returns-in_err-message-clause-answer g c =
     let k = c.in_ok-generation.generation in
-    let drafted = ap (λ (x : State). draft_key x.keys x.leaf k) (sym c.self.view_is) ∙ c.in_ok-draft.ensures in
+    let drafted = ap (λ (x : State). draft_key x.keys x.leaf k) (sym c.self.view_is) ∙ c.in_ok-draft.ensures.answer in
     let same =
     under_same g.S.Suite.crypto c.args.self.now c.key.result.now c.in_ok-draft.draft.key c.self.inside.parts.leaf k c.reuse_guard.result c.args.seed.now c.args.authenticated_data.now
     c.deref.result.now c.in_ok-content.content.items c.key.ensures (ap (λ (x : State). x.leaf) c.self.view_is) c.reuse_guard.ensures c.deref.ensures.value in
@@ -51,7 +51,7 @@ returns-in_err-message-clause-answer g c =
 pub returns-clause-answer : goal.returns-clause-answer
 returns-clause-answer g c =
     let k = c.in_ok-generation.generation in
-    let drafted = ap (λ (x : State). draft_key x.keys x.leaf k) (sym c.self.view_is) ∙ c.in_ok-draft.ensures in
+    let drafted = ap (λ (x : State). draft_key x.keys x.leaf k) (sym c.self.view_is) ∙ c.in_ok-draft.ensures.answer in
     let same =
     under_same g.S.Suite.crypto c.args.self.now c.key.result.now c.in_ok-draft.draft.key c.self.inside.parts.leaf k c.reuse_guard.result c.args.seed.now c.args.authenticated_data.now
     c.deref.result.now c.in_ok-content.content.items c.key.ensures (ap (λ (x : State). x.leaf) c.self.view_is) c.reuse_guard.ensures c.deref.ensures.value in

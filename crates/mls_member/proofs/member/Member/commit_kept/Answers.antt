@@ -1,7 +1,7 @@
 use Rattle.std.proofs.Common.{List, map, refl, sym, ap, subst, ◌∙◌, arith}
 use Rattle.mls_types.specs.declared.commit.ProposalOrRef.{ProposalOrRef}
-use Rattle.mls_model.specs.Make.{listed_of}
-use Rattle.mls_member.specs.Answers.{HasMade}
+use Rattle.mls_model.specs.Make.{list_item_of}
+use Rattle.mls_member.specs.Answers.{ReachesAll}
 use Rattle.mls_member.proofs.CommitSteps.{has_room}
 use Rattle.mls_member.proofs.Commits.{is_gone, is_pending, is_last}
 use Rattle.mls_member.proofs.KeptCommits.{answer_of_same}
@@ -26,11 +26,11 @@ returns-then-not-has_next-clause-answer g c = (
 
 pub returns-in-Ok-clause-answer : goal.returns-in-Ok-clause-answer
 returns-in-Ok-clause-answer g c =
-    answer_of_same g.S.Suite.crypto c.args.self.now _ _ c.args.path c.args.seed.now _ (ap (map listed_of) c.deref.ensures.value ∙ c.in_ok-items.ensures.list) c.in-Ok.ensures.answer
+    answer_of_same g.S.Suite.crypto c.args.self.now _ _ c.args.path c.args.seed.now _ (ap (map list_item_of) c.deref.ensures.value ∙ c.in_ok-items.ensures.list) c.in-Ok.ensures.answer
 
 pub returns-in-Ok-clause-reaches : goal.returns-in-Ok-clause-reaches
 returns-in-Ok-clause-reaches g c = λ good.
-    subst (λ (l : List ProposalOrRef). HasMade g.S.Suite.crypto c.args.self.now c.commit.new.self l c.in-Ok.made) (ap (map listed_of) c.deref.ensures.value ∙ c.in_ok-items.ensures.list) (c.in-Ok.ensures.reaches good)
+    subst (λ (l : List ProposalOrRef). ReachesAll g.S.Suite.crypto c.args.self.now c.commit.new.self l c.in-Ok.made) (ap (map list_item_of) c.deref.ensures.value ∙ c.in_ok-items.ensures.list) (c.in-Ok.ensures.reaches good)
 
 pub returns-in-Ok-clause-last : goal.returns-in-Ok-clause-last
 returns-in-Ok-clause-last g c = λ here none over. let room = has_room _ (sym c.has_next.ensures ∙ c.if-not-has_next.false) in absurd (omega (arith, room, over))

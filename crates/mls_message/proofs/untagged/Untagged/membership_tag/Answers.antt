@@ -15,7 +15,7 @@ overflow_sub-text c =
 
 pub returns : goal.returns
 returns c = λ m speaks.
-    subst (λ (v : SignedContent). c.tag_of.result ≡ content_tag m.epoch v m.public.context) c.self.view_is
+    subst (λ (v : SignedContent). c.tag_of.result ≡ content_tag m.epoch_secret v m.public.context) c.self.view_is
     (c.tag_of.ensures
     ∙ tag_is m c.args.speaker.now c.self.inside.content.now c.as_slice-text.result.now _ c.context_bytes.result.now _ (length c.as_slice-text.result.now) c.auth_data_length.result speaks
     (c.as_slice-text.ensures.value ∙ c.self.invariant.spelled) refl c.auth_data_length.ensures c.split_at.ensures.front c.context_bytes.ensures c.split_at.ensures.back)

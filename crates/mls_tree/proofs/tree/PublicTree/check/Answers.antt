@@ -1,4 +1,4 @@
-use Rattle.std.proofs.Common.{◌≡◌, ◌^◌, ◌≤◌, length, ap, ◌∙◌, sym, arith}
+use Rattle.std.proofs.Common.{◌≡◌, ◌^◌, ◌≤◌, ap, ◌∙◌, sym, arith}
 use Rattle.std.proofs.Math.Pow.{pow_mono}
 use Rattle.mls_tree_model.specs.Term.{width}
 use Rattle.mls_tree_model.specs.Arrays.{term_of}
@@ -8,12 +8,8 @@ use Rattle.mls_tree.specs.Tree.{term, max_leaves}
 use Rattle.mls_tree.specs.Rules.{rules_of}
 use Rattle.mls_tree.proofs.Perfect.{perfect}
 use Rattle.mls_tree.proofs.Checked.{good_checked}
-use Rattle.mls_tree.proofs.KeptHashes.{kept_long}
 use Rattle.mls_tree.proofs.Chilling.{warmed}
 use Rattle.mls_tree.proofs.tree.PublicTree.check.Goals as goal
-
-pub check-requires-clause-long : goal.check-requires-clause-long
-check-requires-clause-long g c = ap length c.as_slice-kept.ensures ∙ kept_long c.self.inside.height c.self.inside.nodes.items _ c.self.invariant.2
 
 pub returns-clause-warms : goal.returns-clause-warms
 returns-clause-warms g c = warmed c.args.self.now c.tree_hash-tree_hash.new.self c.tree_hash-tree_hash.ensures.all c.tree_hash-tree_hash.ensures.counted

@@ -1,7 +1,4 @@
 use Rattle.std.proofs.Common.{ap, ◌∙◌, sym, Ok, Err}
-use Rattle.mls_tree_model.specs.Way.{ciphertext_counts}
-use Rattle.mls_tree_model.specs.Arrays.{term_of}
-use Rattle.mls_tree.specs.Tree.{term}
 use Rattle.mls_tree.specs.Faults.{number_of}
 use Rattle.mls_tree.proofs.Answering.{counts_refused, counts_found}
 use Rattle.mls_tree.proofs.RefusalLaws.{one_number, not_refused}
@@ -13,9 +10,7 @@ returns-in-Err-clause-answer c = λ _. counts_refused _ _ c.args.added.now c.in-
 pub returns-clause-answer : goal.returns-clause-answer
 returns-clause-answer c =
     counts_found _ _ c.args.added.now c.in-Ok.ensures
-    ∙ ap (λ t. Ok (ciphertext_counts 0 (term t) c.args.i c.args.added.now)) (sym c.self.view_is)
-    ∙ ap (λ xs. Ok (ciphertext_counts 0 (term_of c.self.inside.height xs) c.args.i c.args.added.now)) (sym c.deref.ensures.value)
-    ∙ ap Ok (sym (rw c.in_ok-counts.ensures.items at c.in_ok-ciphertext_counts.ensures))
+    ∙ ap Ok (sym (rw (c.in_ok-counts.ensures.items, c.subtree.ensures) at c.in_ok-ciphertext_counts.ensures))
 
 pub returns-in-Err-clause-outright : goal.returns-in-Err-clause-outright
 returns-in-Err-clause-outright c = one_number _ _ (counts_refused _ _ c.args.added.now c.in-Err.ensures.1 ∙ ap (λ e. Err (number_of e)) (sym c.in-Err.ensures.0))

@@ -23,7 +23,7 @@ pub returns-clause-warm : goal.returns-clause-warm
 returns-clause-warm c =
     let own = for_inside _ _ _ _ c.self.view_is c.path.view_is c.requires.prepared in
     let keys = path_of c.path.inside.parents.items in
-    let warm = subst (λ (t : Tree). t.kept ≡ hashes_of 0 (term t)) (sym c.self.view_is) c.requires.warm in
+    let warm = subst (λ (t : Tree). t.hashes ≡ hashes_of 0 (term t)) (sym c.self.view_is) c.requires.warm in
     hashes_after c.self.inside.height c.path.inside.index c.self.inside.nodes.items _ keys _ (c.deref.ensures.value ∙ own.hashes) _ _ _ warm c.put_way.ensures.kept (c.in_ok-merge_with_indexes.ensures.merged keys own.parents)
 
 pub returns-clause-tree : goal.returns-clause-tree
@@ -41,7 +41,7 @@ pub returns-clause-cold : goal.returns-clause-cold
 returns-clause-cold c =
     let own = for_inside _ _ _ _ c.self.view_is c.path.view_is c.requires.prepared in
     let keys = path_of c.path.inside.parents.items in
-    let warm = subst (λ (t : Tree). t.kept ≡ hashes_of 0 (term t)) (sym c.self.view_is) c.requires.warm in
+    let warm = subst (λ (t : Tree). t.hashes ≡ hashes_of 0 (term t)) (sym c.self.view_is) c.requires.warm in
     let member = ap (λ t. is_some (leaf_of (term t) c.path.inside.index)) (sym c.self.view_is) ∙ merge_member _ _ _ _ _ own.answer in
     let long = path_long c.self.inside.height c.path.inside.index c.self.inside.nodes.items _ keys _ (c.deref.ensures.value ∙ own.hashes) in
     let h = c.self.inside.height in

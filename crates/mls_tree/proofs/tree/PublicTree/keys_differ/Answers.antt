@@ -20,12 +20,12 @@ returns c =
     let keys = c.args.keys.now in
     let t = c.args.self.now in
     let kind = c.self.invariant.4.encryption in
-    let cells = c.deref.ensures.value ∙ ap (λ t. t.listing) c.self.view_is in
-    let way = c.as_slice-places.ensures ∙ c.over-way.ensures ∙ ap (λ t. way_numbers t.levels c.args.i) c.self.view_is in
-    let stands = subst (λ t. Stands t.levels t.listing) c.self.view_is c.self.invariant.0 in
+    let cells = c.deref.ensures.value ∙ ap (λ t. t.nodes) c.self.view_is in
+    let way = c.as_slice-places.ensures ∙ c.over-way.ensures ∙ ap (λ t. way_numbers t.height c.args.i) c.self.view_is in
+    let stands = subst (λ t. Stands t.height t.nodes) c.self.view_is c.self.invariant.0 in
     let index = subst (λ xs. Indexes xs c.self.inside.indexes.keys) (sym c.deref.ensures.value) c.self.invariant.4.keys in
     subst (λ v. IfOk c.accepts_beside.result (λ b. b ≡ v)) (
     ap (λ xs. is_distinct same_bytes (x.encryption_key ∷ (keys ++ keys_of c.self.inside.indexes.keys.kind (cells_without 0 c.as_slice-places.result.now xs)))) cells
-    ∙ ap (λ ns. is_distinct same_bytes (x.encryption_key ∷ (keys ++ keys_of c.self.inside.indexes.keys.kind (cells_without 0 ns t.listing)))) way
-    ∙ ap (λ k. is_distinct same_bytes (x.encryption_key ∷ (keys ++ keys_of k (cells_without 0 (way_numbers t.levels c.args.i) t.listing)))) kind
-    ∙ sym (merged_distinct t.levels c.args.i t.listing stands x keys (sym (path_steps (term t) c.args.i (length keys) c.requires).count))) (c.accepts_beside.ensures.answer index)
+    ∙ ap (λ ns. is_distinct same_bytes (x.encryption_key ∷ (keys ++ keys_of c.self.inside.indexes.keys.kind (cells_without 0 ns t.nodes)))) way
+    ∙ ap (λ k. is_distinct same_bytes (x.encryption_key ∷ (keys ++ keys_of k (cells_without 0 (way_numbers t.height c.args.i) t.nodes)))) kind
+    ∙ sym (merged_distinct t.height c.args.i t.nodes stands x keys (sym (path_steps (term t) c.args.i (length keys) c.requires).count))) (c.accepts_beside.ensures.answer index)

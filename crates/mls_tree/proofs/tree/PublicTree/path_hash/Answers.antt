@@ -1,17 +1,6 @@
-use Rattle.std.proofs.Common.{length, [], reverse, ◌∙◌, ap}
-use Rattle.mls_tree_model.specs.Merge.{path_hash, path_parent_hash}
-use Rattle.mls_tree_model.specs.Arrays.{term_of}
-use Rattle.mls_tree.specs.Tree.{term}
+use Rattle.std.proofs.Common.{◌∙◌}
 use Rattle.mls_tree.proofs.Pathing.{hash_is}
-use Rattle.mls_tree.proofs.KeptHashes.{kept_long}
 use Rattle.mls_tree.proofs.tree.PublicTree.path_hash.Goals as goal
 
 pub returns : goal.returns
-returns c =
-    c.path_hash.ensures
-    ∙ ap (λ xs. path_hash 0 (term_of c.self.inside.height xs) c.args.i (reverse c.args.keys.now) []) c.deref.ensures.value
-    ∙ hash_is _ _ _
-    ∙ ap (λ t. path_parent_hash (term t) c.args.i c.args.keys.now) c.self.view_is
-
-pub path_hash-requires-clause-long : goal.path_hash-requires-clause-long
-path_hash-requires-clause-long c = ap length c.as_slice-kept.ensures ∙ kept_long c.self.inside.height c.self.inside.nodes.items _ c.self.invariant.2
+returns c = (rw c.hashed_subtree.ensures at c.path_hash.ensures) ∙ hash_is _ _ _

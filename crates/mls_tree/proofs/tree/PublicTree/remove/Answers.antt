@@ -33,8 +33,8 @@ returns-clause-sound c = remove_sound _ _ c.args.i (returns-clause-answer c)
 pub drop_way-requires-clause-shape : goal.drop_way-requires-clause-shape
 drop_way-requires-clause-shape c = kept_long c.self.inside.height c.self.inside.nodes.items _ c.self.invariant.2
 
-pub end_of_members-end-requires-clause-blank : goal.end_of_members-end-requires-clause-blank
-end_of_members-end-requires-clause-blank c = removal_end _ _ _ _ _ (ap term c.self.view_is) c.self.invariant.3 _ _ _ _ c.deref-2.ensures.value c.put.ensures c.in-Ok.ensures
+pub end_of_members-end-requires : goal.end_of_members-end-requires
+end_of_members-end-requires c = rw c.of.ensures (removal_end _ _ _ _ _ (ap term c.self.view_is) c.self.invariant.3 _ _ _ _ c.deref-2.ensures.value c.put.ensures c.in-Ok.ensures)
 
 pub invariant_of-self : goal.invariant_of-self
 invariant_of-self c =
@@ -43,7 +43,7 @@ invariant_of-self c =
     let kept = kept-put _ _ _ c.self.invariant.2 _ _ _ _ _ (c.drop_way.ensures.kept _ (perfect-term_of _ _)) c.put.ensures in
     let left = left_by (way_numbers c.self.inside.height c.args.i) _ c.self.inside.nodes.items _ _ _ (c.as_slice.ensures ∙ c.over-way.ensures) c.deref.ensures.value c.leave_all.ensures.left c.self.invariant.4 in
     let blanked = indexed-remove c.self.inside.height c.args.i c.self.inside.nodes.items _ _ c.self.invariant.0 c.put.ensures left in
-    (c.trim-self-inside.ensures.order.stands, omega arith, kept-trimmed _ _ _ _ _ _ _ kept c.trim-self-inside.ensures.order (c.len.ensures ∙ c.trim-self-inside.new.nodes.ok.0) (ap (λ h. h.kept) c.cut.ensures), removed _ _ _ _ _ (ap term c.self.view_is) c.self.invariant.3 _ _ _ _ _ _ _ _ c.deref-2.ensures.value c.put.ensures c.trim-self-inside.ensures.order c.in-Ok.ensures (omega arith) (omega arith) c.end_of_members-end.ensures, c.trim-self-inside.ensures.indexes blanked)
+    (c.trim-self-inside.ensures.order.stands, omega arith, kept-trimmed _ _ _ _ _ _ _ kept c.trim-self-inside.ensures.order (c.len.ensures ∙ c.trim-self-inside.new.nodes.ok.0) (ap (λ h. h.kept) c.cut.ensures), removed _ _ _ _ _ (ap term c.self.view_is) c.self.invariant.3 _ _ _ _ _ _ _ _ c.deref-2.ensures.value c.put.ensures c.trim-self-inside.ensures.order c.in-Ok.ensures (omega arith) (omega arith) (rw c.of.ensures at c.end_of_members-end.ensures), c.trim-self-inside.ensures.indexes blanked)
 
 pub returns-clause-cold : goal.returns-clause-cold
 returns-clause-cold c =

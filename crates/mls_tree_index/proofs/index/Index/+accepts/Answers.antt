@@ -13,7 +13,7 @@ returns-then-contains t c = λ cells part is.
     let held = keys_of c.args.self.now.kind cells in
     elim c.then-contains.branch [
       | then-contains-via-then-contains w ↦ first_again k keys held (sym w.if-contains.true ∙ c.contains.ensures.value ∙ searched k keys)
-      | then-contains-via-else-contains+then-holds w ↦ others_have k keys held (sym w.if-holds.true ∙ w.holds.ensures cells part is ∙ ap (is_held c.args.self.now.kind cells) w.as_slice.ensures)
+      | then-contains-via-else-contains+then-holds w ↦ others_have k keys held (sym w.if-holds.true ∙ w.holds.ensures cells part is.entries ∙ ap (is_held c.args.self.now.kind cells) w.as_slice.ensures)
     ]
 
 pub returns-in-Some : goal.returns-in-Some
@@ -23,7 +23,7 @@ returns-in-Some t c = λ cells part is.
     let held = keys_of c.args.self.now.kind cells in
     c.accepts.ensures cells part is
     ∙ ap (λ ks. is_distinct same_bytes (ks ++ held)) (sym c.in-Some.ensures.cases.0)
-    ∙ both_new k keys held (sym c.if-contains.false ∙ c.contains.ensures.value ∙ searched k keys) (sym c.if-holds.false ∙ c.holds.ensures cells part is ∙ ap (is_held c.args.self.now.kind cells) c.as_slice.ensures)
+    ∙ both_new k keys held (sym c.if-contains.false ∙ c.contains.ensures.value ∙ searched k keys) (sym c.if-holds.false ∙ c.holds.ensures cells part is.entries ∙ ap (is_held c.args.self.now.kind cells) c.as_slice.ensures)
 
 pub returns-in-None : goal.returns-in-None
 returns-in-None t c = λ cells part is.
@@ -32,4 +32,4 @@ returns-in-None t c = λ cells part is.
     let held = keys_of c.args.self.now.kind cells in
     c.are_distinct.ensures cells is
     ∙ ap (λ ks. is_distinct same_bytes (ks ++ held)) (sym (nil_from_length keys c.in-None.ensures.cases))
-    ∙ both_new k keys held (sym c.if-contains.false ∙ c.contains.ensures.value ∙ searched k keys) (sym c.if-holds.false ∙ c.holds.ensures cells part is ∙ ap (is_held c.args.self.now.kind cells) c.as_slice.ensures)
+    ∙ both_new k keys held (sym c.if-contains.false ∙ c.contains.ensures.value ∙ searched k keys) (sym c.if-holds.false ∙ c.holds.ensures cells part is.entries ∙ ap (is_held c.args.self.now.kind cells) c.as_slice.ensures)

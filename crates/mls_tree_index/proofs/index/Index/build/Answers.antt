@@ -3,6 +3,7 @@ use mir.Val.{bool_byte}
 use Rattle.mls_tree_index.specs.Keys.{key_in}
 use Rattle.mls_tree_index.specs.Entries.{is_again}
 use Rattle.mls_tree_index.specs.Indexes.{Indexes}
+use Rattle.mls_tree_index.proofs.StepLaws.{same_index}
 use Rattle.mls_tree_index.proofs.SortLaws.{built, listing, built_none, built_all, built_numbers, built_more, bit_low}
 use Rattle.mls_tree_index.proofs.index.Index.build.Goals as goal
 
@@ -52,4 +53,6 @@ pub returns-clause-built : goal.returns-clause-built
 returns-clause-built c =
     let past = c.loop-place-test.false in
     let end = c.len-place-end.ensures in
-    built_all c.args.kind c.args.cells.now c.in_ok-entries.entries.items c.in_ok-entries.ensures.entries c.loop-place.place _ (omega arith) refl c.loop-place.invariant.built
+    let numbers = c.in_ok-blocks.ensures ∙ c.deref-2.ensures.value in
+    same_index c.args.cells.now (record { kind = c.args.kind; numbers = c.loop-place.numbers.items; repeats = c.loop-place.repeats; room = 0 }) _ (record { kind = refl; numbers = numbers; repeats = refl })
+    (built_all c.args.kind c.args.cells.now c.in_ok-entries.entries.items c.in_ok-entries.ensures.entries c.loop-place.place _ (omega arith) refl c.loop-place.invariant.built)

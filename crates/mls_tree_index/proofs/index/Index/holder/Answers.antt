@@ -1,29 +1,40 @@
-use Rattle.std.proofs.Common.{refl, ◌&&◌, nat_lt, length, get_or, sym, ◌∙◌, ap, subst, ltb-true}
+use Rattle.std.proofs.Common.{refl, ◌&&◌, nat_lt, length, get_or, sym, ◌∙◌, ap, arith, le-ltb}
 use Rattle.std.proofs.Math.Bool.{and-false}
-use Rattle.std.proofs.lemmas.List.{get_or_default}
-use Rattle.mls_tree_index.specs.Keys.{key_in, is_key, IsHolder}
-use Rattle.mls_tree_index.proofs.StepLaws.{held_first}
+use Rattle.std.specs.List.{concat}
+use Rattle.mls_tree_index.specs.Blocks.{place_of}
+use Rattle.mls_tree_index.specs.Indexes.{Listing}
+use Rattle.mls_tree_index.specs.Keys.{key_in, is_key}
+use Rattle.mls_tree_index.proofs.StepLaws.{held_first, place_for}
 use Rattle.mls_tree_index.proofs.index.Index.holder.Goals as goal
 
-pub returns-in_err-x : goal.returns-in_err-x
-returns-in_err-x c = λ is.
-    let kind = c.args.self.now.kind in
+pub returns-in_default : goal.returns-in_default
+returns-in_default c = λ is.
+    let s = c.args.self.now in
+    let kind = c.self.inside.kind in
+    let ns = concat c.self.inside.blocks.blocks in
     let cells = c.args.cells.now in
-    let key = c.args.key.now in
-    let numbers = c.deref.ensures.value ∙ ap (λ t. t.numbers) c.self.view_is in
-    let first = held_first kind cells cells (λ x some. refl) c.args.self.now.numbers is.entries key c.place-place.result (c.place-place.ensures.gap (key_in kind cells) (λ x some. refl) is.entries) in
-    let past = c.in_err-x.ensures.lookup.0 ∙ ap (λ ns. nat_lt c.place-place.result (length ns)) numbers in
-    subst (IsHolder kind cells key) (sym c.from_residual.ensures)
-    (sym first ∙ ap (λ v. v && is_key key (key_in kind cells (get_or c.args.self.now.numbers c.place-place.result 0))) (sym past))
+    let p = place_of c.self.inside.blocks.blocks c.spot_of-spot.result in
+    let kinds = ap (λ (t : Listing). t.kind) c.self.view_is in
+    let numbers = ap (λ (t : Listing). t.numbers) c.self.view_is in
+    let k = c.args.key.now in
+    let gap = place_for s kind ns cells k 0 p kinds numbers c.spot_of-spot.ensures.gap (key_in s.kind cells) (λ x some. refl) is.entries in
+    let first = held_first s.kind cells cells (λ x some. refl) s.numbers is.entries k p gap in
+    let past = c.in_default.ensures in
+    let wide = ap length numbers in
+    sym first ∙ ap (λ v. v && is_key k (key_in s.kind cells (get_or s.numbers p 0))) (le-ltb p (length s.numbers) (omega arith))
 
 pub returns-else-is_key_in : goal.returns-else-is_key_in
 returns-else-is_key_in c = λ is.
-    let kind = c.args.self.now.kind in
+    let s = c.args.self.now in
+    let kind = c.self.inside.kind in
+    let ns = concat c.self.inside.blocks.blocks in
     let cells = c.args.cells.now in
-    let key = c.args.key.now in
-    let numbers = c.deref.ensures.value ∙ ap (λ t. t.numbers) c.self.view_is in
-    let first = held_first kind cells cells (λ x some. refl) c.args.self.now.numbers is.entries key c.place-place.result (c.place-place.ensures.gap (key_in kind cells) (λ x some. refl) is.entries) in
-    let inside = ltb-true c.place-place.result (length c.deref.result.now) (sym c.in_ok-x.ensures.lookup.0) in
-    let x = c.in_ok-x.ensures.lookup.1 ∙ get_or_default c.deref.result.now c.place-place.result _ 0 inside ∙ ap (λ ns. get_or ns c.place-place.result 0) numbers in
-    let other = sym (c.is_key_in.ensures ∙ ap (λ t. is_key key (key_in t.kind cells c.in_ok-x.field-0.now)) c.self.view_is ∙ ap (λ n. is_key key (key_in kind cells n)) x) ∙ c.if-is_key_in.false in
-    sym first ∙ ap (λ v. nat_lt c.place-place.result (length c.args.self.now.numbers) && v) other ∙ and-false _
+    let p = place_of c.self.inside.blocks.blocks c.spot_of-spot.result in
+    let kinds = ap (λ (t : Listing). t.kind) c.self.view_is in
+    let numbers = ap (λ (t : Listing). t.numbers) c.self.view_is in
+    let k = c.args.key.now in
+    let gap = place_for s kind ns cells k 0 p kinds numbers c.spot_of-spot.ensures.gap (key_in s.kind cells) (λ x some. refl) is.entries in
+    let first = held_first s.kind cells cells (λ x some. refl) s.numbers is.entries k p gap in
+    let x = sym c.in-Some.ensures.1 ∙ ap (λ ms. get_or ms p 0) numbers in
+    let other = sym (c.is_key_in.ensures ∙ ap (λ j. is_key k (key_in j cells c.in-Some.x)) kinds ∙ ap (λ n. is_key k (key_in s.kind cells n)) x) ∙ c.if-is_key_in.false in
+    sym first ∙ ap (λ v. nat_lt p (length s.numbers) && v) other ∙ and-false _

@@ -13,14 +13,14 @@ returns-in_err-ciphertext g c =
     rw (p.1, p.2) (λ other.
     seals_fail g.S.Suite.crypto c.args.self.now.context.now c.args.secret.now c.args.place.now.first (subtree_at (term c.args.self.now.tree.now) c.args.place.now.beside) c.args.self.now.seed.now c.args.self.now.added.now c.args.reached.now c.args.first
     c.loop-node.node-index c.loop-node.sealed.items c.loop-node.number c.loop-node.invariant
-    (omega arith) _ c.is_leaf_among.ensures c.if-is_leaf_among.false _ c.key_beside-key.ensures _ c.seal_seed-rnd.ensures
+    (omega arith) _ c.is_leaf_among.ensures c.if-is_leaf_among.false _ c.key_beside-key.ensures _ c.seal_seed_of-rnd.ensures
     (number_of c.in_err-ciphertext.field-0.0) (c.in_err-ciphertext.ensures other))
 
 pub loop-node-preserved : goal.loop-node-preserved
 loop-node-preserved g c =
     seals_more g.S.Suite.crypto c.args.self.now.context.now c.args.secret.now c.args.place.now.first (subtree_at (term c.args.self.now.tree.now) c.args.place.now.beside) c.args.self.now.seed.now c.args.self.now.added.now c.args.reached.now c.args.first
     c.loop-node.node-index c.loop-node.sealed.items c.loop-node.number c.loop-node.invariant
-    (omega arith) _ c.is_leaf_among.ensures c.if-is_leaf_among.false _ c.key_beside-key.ensures _ c.seal_seed-rnd.ensures
+    (omega arith) _ c.is_leaf_among.ensures c.if-is_leaf_among.false _ c.key_beside-key.ensures _ c.seal_seed_of-rnd.ensures
     c.in_ok-ciphertext.ciphertext c.in_ok-ciphertext.ensures c.push.new.self.items c.in_ok-push.ensures.items _ refl
 
 pub returns : goal.returns

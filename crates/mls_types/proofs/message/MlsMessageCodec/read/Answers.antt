@@ -1,8 +1,8 @@
 use Rattle.std.proofs.Common.{refl, ap, arith, ℕ, List, Result}
 use Rattle.std.proofs.lemmas.Result.{err_from_is_err_and}
 use Rattle.mls_wire.specs.Reading.{◌>>=◌}
-use Rattle.mls_wire.specs.CombineLaws.{seen_read}
 use Rattle.mls_wire.specs.Combine.{case, others}
+use Rattle.mls_wire.specs.CombineReads.{seen_read}
 use Rattle.mls_leaf.proofs.Codecs.{Fails-then}
 use Rattle.mls_leaf.specs.KeyPackage.{key_package}
 use Rattle.mls_types.specs.GroupInfo.{group_info}

@@ -1,7 +1,7 @@
 use Rattle.std.proofs.Common.{refl, ap, arith, ℕ, List, Result}
 use Rattle.mls_wire.specs.Reading.{◌>>=◌}
-use Rattle.mls_wire.specs.CombineLaws.{seen_read}
 use Rattle.mls_wire.specs.Combine.{case, others, nothing}
+use Rattle.mls_wire.specs.CombineReads.{seen_read}
 use Rattle.mls_types.specs.PublicMessage.{wire_format, WireFormats, make_wire_format}
 use Rattle.mls_leaf.proofs.Cases.{read_other}
 use Rattle.mls_types.proofs.public_message.WireFormatCodec.read.Goals as goal

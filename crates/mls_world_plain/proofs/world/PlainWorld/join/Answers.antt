@@ -36,9 +36,9 @@ returns-in_ok-member-in-Some-clause-does g c =
     let w : World = c.args.self.now in
     let j : JoinedMember = record { member = c.in-Ok-join.joined.member; info = c.in-Ok-join.joined.group_info.items } in
     let same : c.entrant.inside.candidate ≡ c.in-Ok.entrant.now.candidate = ap (λ (x : Entrant). x.candidate) c.entrant.view_is in
-    let made : commit_for_joiner w.made c.args.source.now c.in-Ok.entrant.now.candidate ≡ slice_get w.made c.in-Some.made =
-    ap (λ (x : Candidate). commit_for_joiner w.made c.args.source.now x) (sym same) ∙ c.commit_for_joiner.ensures.first ∙ ap (λ (o : Option ℕ). commit_made_at w.made o) c.in-Some.is in
-    let there : c.in-Some.made < length w.made = subst (λ (o : Option ℕ). IsThere w.made o) c.in-Some.is c.commit_for_joiner.ensures.there in
+    let made : commit_for_joiner w.commits c.args.source.now c.in-Ok.entrant.now.candidate ≡ slice_get w.commits c.in-Some.made =
+    ap (λ (x : Candidate). commit_for_joiner w.commits c.args.source.now x) (sym same) ∙ c.commit_for_joiner.ensures.first ∙ ap (λ (o : Option ℕ). commit_made_at w.commits o) c.in-Some.is in
+    let there : c.in-Some.made < length w.commits = subst (λ (o : Option ℕ). IsThere w.commits o) c.in-Some.is c.commit_for_joiner.ensures.there in
     join_made g.S.Suite.crypto w c.follow_member.new.self c.args.candidate c.in_ok-member-in-Some.member c.epoch-epoch.result c.in-Some.made c.args.source.now c.in-Ok-bytes_of.bytes.now c.in-Ok.entrant.now j c.in-Ok.ensures c.in-Ok-bytes_of.ensures
     (ap (λ (x : Candidate). join_verdict g.S.Suite.crypto x c.in-Ok-bytes_of.bytes.now) (sym same) ∙ c.in-Ok-join.ensures.answer)
     made there c.in_ok-member-in-Some.ensures.number c.epoch-epoch.ensures
@@ -51,7 +51,7 @@ returns-in_ok-member-in-None-clause-does g c =
     let same : c.entrant.inside.candidate ≡ c.in-Ok.entrant.now.candidate = ap (λ (x : Entrant). x.candidate) c.entrant.view_is in
     join_begun g.S.Suite.crypto w c.begin_member.new.self c.args.candidate c.in_ok-member-in-None.member c.epoch-epoch.result c.args.source.now c.in-Ok-bytes_of.bytes.now c.in-Ok.entrant.now j c.in-Ok.ensures c.in-Ok-bytes_of.ensures
     (ap (λ (x : Candidate). join_verdict g.S.Suite.crypto x c.in-Ok-bytes_of.bytes.now) (sym same) ∙ c.in-Ok-join.ensures.answer)
-    (ap (λ (x : Candidate). commit_for_joiner w.made c.args.source.now x) (sym same) ∙ c.commit_for_joiner.ensures.first ∙ ap (λ (o : Option ℕ). commit_made_at w.made o) c.in-None.is)
+    (ap (λ (x : Candidate). commit_for_joiner w.commits c.args.source.now x) (sym same) ∙ c.commit_for_joiner.ensures.first ∙ ap (λ (o : Option ℕ). commit_made_at w.commits o) c.in-None.is)
     c.in_ok-member-in-None.ensures.number c.epoch-epoch.ensures
     (λ x q. subst (λ (l : List ℕ). c.begin_member.new.self ≡ with_new_member w c.args.candidate x (record { member = j.member; journal = new_journal (from.GroupInfo l) })) c.from_vec.ensures (c.in_ok-member-in-None.ensures.ok x q))
 

@@ -19,8 +19,8 @@ returns-in-Some-clause-ok g c = λ s p found pends.
     recorded_is (λ (v : Vec ℕ). v.items) c.args.self.now c.self.inside.entrants.items c.self.inside.seats.items c.self.inside.messages.items c.push_reserved-in-Some.new.self.items
     c.self.inside.made.items c.reserve-2.new.self.items c.push_reserved.new.self.items c.self.inside.journals c.follow.new.self c.args.k c.in_ok-journal.journal c.len-message.result
     c.index.result.now (record { member = c.behind-self.inside.member; journal = c.behind-self.inside.journal }) s p c.args.made.commit.items c.from_vec-commit.result c.args.made.welcome
-    c.args.named.names.items c.args.named.adds.items c.pending_epoch-epoch.result c.in_ok-welcome.welcome _
-    c.self.view_is c.self.invariant c.behind-self.view_is c.index.ensures c.requires found (c.pending_epoch-epoch.ensures s p found pends) count
+    c.args.named.names.items c.args.named.adds.items c.pending_epoch-epoch_secret.result c.in_ok-welcome.welcome _
+    c.self.view_is c.self.invariant c.behind-self.view_is c.index.ensures c.requires found (c.pending_epoch-epoch_secret.ensures s p found pends) count
     c.in_ok-journal.ensures.number (c.from_vec-commit.ensures ∙ c.in_ok-from_slice.ensures.items ∙ c.deref.ensures.value) c.in_ok-journal.ensures.ok
     c.in_ok-welcome.ensures c.in_ok-reserve-2.ensures.items c.push_reserved.ensures.items
     (told_both (λ (v : Vec ℕ). v.items) c.self.inside.messages.items c.reserve.new.self.items c.push_reserved-2.new.self.items c.push_reserved-in-Some.new.self.items c.args.made.commit.items _ _ c.args.made.welcome c.in-Some.bytes
@@ -33,8 +33,8 @@ returns-in-None-clause-ok g c = λ s p found pends.
     recorded_is (λ (v : Vec ℕ). v.items) c.args.self.now c.self.inside.entrants.items c.self.inside.seats.items c.self.inside.messages.items c.push_reserved-2.new.self.items
     c.self.inside.made.items c.reserve-2.new.self.items c.push_reserved.new.self.items c.self.inside.journals c.follow.new.self c.args.k c.in_ok-journal.journal c.len-message.result
     c.index.result.now (record { member = c.behind-self.inside.member; journal = c.behind-self.inside.journal }) s p c.args.made.commit.items c.from_vec-commit.result c.args.made.welcome
-    c.args.named.names.items c.args.named.adds.items c.pending_epoch-epoch.result c.in_ok-welcome.welcome _
-    c.self.view_is c.self.invariant c.behind-self.view_is c.index.ensures c.requires found (c.pending_epoch-epoch.ensures s p found pends) count
+    c.args.named.names.items c.args.named.adds.items c.pending_epoch-epoch_secret.result c.in_ok-welcome.welcome _
+    c.self.view_is c.self.invariant c.behind-self.view_is c.index.ensures c.requires found (c.pending_epoch-epoch_secret.ensures s p found pends) count
     c.in_ok-journal.ensures.number (c.from_vec-commit.ensures ∙ c.in_ok-from_slice.ensures.items ∙ c.deref.ensures.value) c.in_ok-journal.ensures.ok
     c.in_ok-welcome.ensures c.in_ok-reserve-2.ensures.items c.push_reserved.ensures.items
     (told_one (λ (v : Vec ℕ). v.items) c.self.inside.messages.items c.reserve.new.self.items c.push_reserved-2.new.self.items c.args.made.commit.items _ c.args.made.welcome

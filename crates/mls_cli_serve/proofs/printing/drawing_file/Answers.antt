@@ -1,0 +1,12 @@
+use Rattle.std.proofs.Common.{rules, arith}
+use Rattle.mls_cli_check.specs.Drawing.{draw_page}
+use Rattle.mls_cli_serve.proofs.Reading.{long_page, short_page}
+use Rattle.mls_cli_serve.proofs.printing.drawing_file.Goals as goal
+
+pub returns-then-text-limit : goal.returns-then-text-limit
+returns-then-text-limit c =
+    rw (long_page c.args.form c.args.text.now (draw_page c.args.source c.args.drawing c.args.form c.args.text.now) (omega (arith, c.if-text-limit.true, c.file_limit-limit.ensures))) (search rules)
+
+pub returns : goal.returns
+returns c =
+    rw (short_page c.args.form c.args.text.now (draw_page c.args.source c.args.drawing c.args.form c.args.text.now) (omega (arith, c.if-text-limit.false, c.file_limit-limit.ensures))) c.draw_page.ensures.page

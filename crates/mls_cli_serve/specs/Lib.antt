@@ -1,0 +1,15 @@
+pub mod Options
+pub mod ExplainArguments
+pub mod Drawings
+pub mod ReplayArguments
+pub mod Arguments
+pub mod TreeJobs
+pub mod Hints
+pub mod MemberPicture
+pub mod Layouts
+pub mod Pages
+pub mod Saying
+pub mod Places
+pub mod Remarks
+pub mod Serving
+pub mod Meter

@@ -1,0 +1,134 @@
+//! What is said of how far a replay has come.
+
+ghost use Rattle.std.specs.Prelude.{◌≡◌};
+ghost use Rattle.mls_cli_serve.specs.Meter.{SaysAtPace, SaysIf, SaysInTime, SaysLine, is_due, is_hundredth, meter_pace, meter_writer, pace_of};
+
+use crate::tasks::ProgressChoice;
+use mls_cli_replay::Progress;
+use std::io::Write;
+use std::time::{Clock, Instant};
+
+/// How many seconds pass on a terminal before the first line, and then between two.
+const SECONDS: u64 = 2;
+
+/// When it is said how far a replay is.
+#[derive(Clone, Copy, Debug, PartialEq, Eq)]
+pub enum Pace {
+    /// Never.
+    Never,
+    /// Where two seconds have passed.
+    Seconds,
+    /// At each hundredth of its events, and at the last one.
+    Hundredths,
+}
+
+/// When it is said how far a replay is, by whether the errors go to a terminal.
+pub fn pace_of(choice: ProgressChoice, is_terminal: bool) -> Pace
+    ensures { result ≡ pace_of choice is_terminal }
+{
+    match choice {
+        ProgressChoice::Always => Pace::Hundredths,
+        ProgressChoice::OnTerminal => {
+            if is_terminal {
+                Pace::Seconds
+            } else {
+                Pace::Never
+            }
+        }
+    }
+}
+
+/// A writer that says how far a replay is.
+#[derive(Drop)]
+pub struct Meter<'a, C, W> {
+    writer: W,
+    clock: &'a C,
+    pace: Pace,
+    /// When it was said last, or the start, if the clock could be read.
+    last: Option<Instant>,
+}
+
+/// What the clock reads.
+fn read_clock<C: Clock>(clock: &C) -> Option<Instant> {
+    match Instant::now(clock) {
+        Ok(now) => Some(now),
+        Err(_) => None,
+    }
+}
+
+/// Whether two seconds have passed.
+fn is_due(last: Option<Instant>, now: Option<Instant>) -> bool
+    ensures { result ≡ is_due last now }
+{
+    match last {
+        Some(last) => match now {
+            Some(now) => now.duration_since(last).as_secs() >= SECONDS,
+            None => false,
+        },
+        None => false,
+    }
+}
+
+/// Whether so many of all are a multiple of a hundredth of all, rounded down, or all.
+fn is_hundredth(done: usize, all: usize) -> bool
+    ensures { result ≡ is_hundredth done all }
+{
+    done == all || done % (all / 100).max(1) == 0
+}
+
+impl<'a, C: Clock, W: Write> Meter<'a, C, W> {
+    /// A meter of this pace, which begins now.
+    pub fn new(writer: W, clock: &'a C, pace: Pace) -> Meter<'a, C, W>
+        ensures writer { meter_writer result ≡ writer }
+        ensures pace { meter_pace result ≡ pace }
+    {
+        Meter {
+            writer,
+            clock,
+            pace,
+            last: read_clock(clock),
+        }
+    }
+
+    /// Says how far the replay is; where that can't be written, nothing more is said.
+    fn say(&mut self, done: usize, all: usize)
+        ensures { SaysLine W.contents done all self.old self.new }
+    {
+        if write!(self.writer, "mls: {done} of {all} events\n").is_err() {
+            self.pace = Pace::Never;
+        }
+    }
+
+    /// Says it where it is due.
+    fn say_if(&mut self, due: bool, done: usize, all: usize)
+        ensures { SaysIf W.contents due done all self.old self.new }
+    {
+        if due {
+            self.say(done, all);
+        }
+    }
+
+    /// Says it where two seconds have passed.
+    fn say_in_time(&mut self, done: usize, all: usize)
+        ensures { SaysInTime W.contents done all self.old self.new }
+    {
+        let now = read_clock(self.clock);
+        if is_due(self.last, now) {
+            self.last = now;
+            self.say(done, all);
+        }
+    }
+}
+
+impl<C: Clock, W: Write> Progress for Meter<'_, C, W> {
+    ghost reports = { λ old new done all.
+        SaysAtPace (meter_pace old) W.contents done all old new };
+
+    fn report(&mut self, done: usize, all: usize) {
+        match self.pace {
+            Pace::Never => {}
+            Pace::Seconds => self.say_in_time(done, all),
+            Pace::Hundredths => self.say_if(is_hundredth(done, all), done, all),
+        }
+    }
+}

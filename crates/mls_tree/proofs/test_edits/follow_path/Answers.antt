@@ -1,4 +1,0 @@
-use Rattle.mls_tree.proofs.test_edits.follow_path.Goals as goal
-
-pub follow_path-requires-clause-prepared : goal.follow_path-requires-clause-prepared
-follow_path-requires-clause-prepared c = c.in_ok-path.ensures.prepared.0

@@ -1,0 +1,341 @@
+-- Laws of lists in blocks: an edit of one block is one of the whole list.
+use Rattle.std.proofs.Common.{◌≡◌, ℕ, zero, suc, ◌+◌, ◌-◌, ◌<◌, ◌≤◌, List, [], ◌∷◌, ◌++◌, map, length, take, drop, get_or, set, refl, sym, ◌∙◌, ap, subst, arith, append_assoc, append-nil, add-one}
+use Rattle.std.specs.Global.{Vec}
+use Rattle.std.specs.List.{All, concat, insert, remove}
+use Rattle.std.specs.Vec.{vec_len, vec_capacity}
+use Rattle.std.proofs.lemmas.List.{length-append, get_or_append_left, get_or-append-add, map-append, map-set}
+use Rattle.std.proofs.lemmas.Grind.{get_or-set_at}
+use Rattle.std.proofs.lemmas.List.{length-drop, length-set, length-take-le, nil_from_length, take-append-drop}
+use Rattle.std.proofs.lemmas.List.Folds.{concat-append}
+use Rattle.std.proofs.lemmas.List.Edits.{insert-append_left, insert-append_right, length-insert, remove-append_left, remove-append_right}
+use Rattle.std.proofs.lemmas.List.Elements.{All-set, All-get_or}
+use Rattle.mls_tree_index.specs.declared.blocks.Spot.{Spot}
+use Rattle.mls_tree_index.specs.Blocks.{AreBlocks, IsBlock, IsOpenAt, PushesBlock, blocks_of, place_in, place_of, split_at}
+
+-- ---- where a block stands
+
+place_behind : (x : List ℕ) (bs : List (List ℕ)) (b o : ℕ) → place_in (x ∷ bs) (suc b) o ≡ length x + place_in bs b o
+place_behind x bs b o = let more = length-append x (concat (take b bs)) in omega arith
+
+pub place_next : (bs : List (List ℕ)) (b o : ℕ) → b < length bs → place_in bs (suc b) o ≡ place_in bs b (length (get_or bs b [])) + o
+place_next [] b o lt = absurd (omega arith)
+place_next (x ∷ bs) zero o lt = let more = length-append x [] in omega arith
+place_next (x ∷ bs) (suc b) o lt =
+    let rest = place_next bs b o (omega arith) in
+    let one = place_behind x bs b (length (get_or bs b [])) in
+    let two = place_behind x bs (suc b) o in
+    omega arith
+
+pub block_within : (bs : List (List ℕ)) (b : ℕ) → b < length bs → place_in bs b (length (get_or bs b [])) ≤ length (concat bs)
+block_within [] b lt = absurd (omega arith)
+block_within (x ∷ bs) zero lt = let more = length-append x (concat bs) in omega arith
+block_within (x ∷ bs) (suc b) lt =
+    let rest = block_within bs b (omega arith) in
+    let one = place_behind x bs b (length (get_or bs b [])) in
+    let more = length-append x (concat bs) in
+    omega arith
+
+-- the last block ends where the list does
+pub block_last : (bs : List (List ℕ)) (b : ℕ) → suc b ≡ length bs → place_in bs b (length (get_or bs b [])) ≡ length (concat bs)
+block_last [] b last = absurd (omega arith)
+block_last (x ∷ []) zero last = let more = length-append x [] in omega arith
+block_last (x ∷ y ∷ bs) zero last = absurd (omega arith)
+block_last (x ∷ bs) (suc b) last =
+    let rest = block_last bs b (omega arith) in
+    let one = place_behind x bs b (length (get_or bs b [])) in
+    let more = length-append x (concat bs) in
+    omega arith
+
+-- a number of a block is one of the list
+pub number_in : (bs : List (List ℕ)) (b o : ℕ) → b < length bs → o < length (get_or bs b []) → get_or (concat bs) (place_in bs b o) 0 ≡ get_or (get_or bs b []) o 0
+number_in [] b o lt low = absurd (omega arith)
+number_in (x ∷ bs) zero o lt low =
+    let at : place_in (x ∷ bs) 0 o ≡ o = omega arith in
+    ap (λ n. get_or (x ++ concat bs) n 0) at ∙ get_or_append_left x (concat bs) 0 o low
+number_in (x ∷ bs) (suc b) o lt low =
+    ap (λ n. get_or (x ++ concat bs) n 0) (place_behind x bs b o)
+    ∙ get_or-append-add x (concat bs) (place_in bs b o) 0
+    ∙ number_in bs b o (omega arith) low
+
+-- where a block ends, the next one begins
+pub next_number : (bs : List (List ℕ)) (b o : ℕ) → b < length bs → length (get_or bs b []) ≡ o → suc b < length bs → 0 < length (get_or bs (suc b) []) → (place_in bs b o < length (concat bs)) × (get_or (concat bs) (place_in bs b o) 0 ≡ get_or (get_or bs (suc b) []) 0 0)
+next_number bs b o lt all more full =
+    let next = place_next bs b 0 lt in
+    let at : place_in bs b o ≡ place_in bs (suc b) 0 = omega arith in
+    let within = block_within bs (suc b) more in
+    (omega arith, ap (λ n. get_or (concat bs) n 0) at ∙ number_in bs (suc b) 0 more full)
+
+pub place_end : (bs : List (List ℕ)) (b o : ℕ) → b < length bs → length (get_or bs b []) ≡ o → place_in bs (b + 1) 0 ≡ place_in bs b o
+place_end bs b o lt all =
+    let next = place_next bs b 0 lt in
+    ap (λ n. place_in bs n 0) (add-one b) ∙ omega arith
+
+pub no_number : (bs : List (List ℕ)) (b o : ℕ) → b < length bs → length (get_or bs b []) ≤ o → length bs ≤ suc b → length (concat bs) ≤ place_in bs b o
+no_number bs b o lt all last = let ends = block_last bs b (omega arith) in omega arith
+
+-- ---- edits of a block
+
+pub insert_in : (bs : List (List ℕ)) (b o y : ℕ) → b < length bs → o ≤ length (get_or bs b []) → concat (set bs b (insert (get_or bs b []) o y)) ≡ insert (concat bs) (place_in bs b o) y
+insert_in [] b o y lt low = absurd (omega arith)
+insert_in (x ∷ bs) zero o y lt low =
+    let at : o ≡ place_in (x ∷ bs) 0 o = omega arith in
+    sym (insert-append_left x (concat bs) o y low) ∙ ap (λ n. insert (x ++ concat bs) n y) at
+insert_in (x ∷ bs) (suc b) o y lt low =
+    let behind = place_behind x bs b o in
+    let at : place_in bs b o ≡ place_in (x ∷ bs) (suc b) o - length x = omega arith in
+    ap (λ zs. x ++ zs) (insert_in bs b o y (omega arith) low ∙ ap (λ n. insert (concat bs) n y) at)
+    ∙ sym (insert-append_right x (concat bs) (length x) (place_in (x ∷ bs) (suc b) o) y refl (omega arith))
+
+pub remove_in : (bs : List (List ℕ)) (b o : ℕ) → b < length bs → o < length (get_or bs b []) → concat (set bs b (remove (get_or bs b []) o)) ≡ remove (concat bs) (place_in bs b o)
+remove_in [] b o lt low = absurd (omega arith)
+remove_in (x ∷ bs) zero o lt low =
+    let at : o ≡ place_in (x ∷ bs) 0 o = omega arith in
+    sym (remove-append_left x (concat bs) o low) ∙ ap (λ n. remove (x ++ concat bs) n) at
+remove_in (x ∷ bs) (suc b) o lt low =
+    let behind = place_behind x bs b o in
+    let at : place_in bs b o ≡ place_in (x ∷ bs) (suc b) o - length x = omega arith in
+    ap (λ zs. x ++ zs) (remove_in bs b o (omega arith) low ∙ ap (λ n. remove (concat bs) n) at)
+    ∙ sym (remove-append_right x (concat bs) (length x) (place_in (x ∷ bs) (suc b) o) refl (omega arith))
+
+-- a block that has no number goes
+pub without_empty : (bs : List (List ℕ)) (b : ℕ) → b < length bs → get_or bs b [] ≡ [] → concat (remove bs b) ≡ concat bs
+without_empty [] b lt none = absurd (omega arith)
+without_empty (x ∷ bs) zero lt none = ap (λ v. v ++ concat bs) (sym none)
+without_empty (x ∷ bs) (suc b) lt none = ap (λ zs. x ++ zs) (without_empty bs b (omega arith) none)
+
+-- ---- what holds of each element, in an edited list
+
+module _ {A : Type 0} (P : A → Type 0) where
+  pub all_first : (x : A) (xs : List A) → All P (x ∷ xs) → P x
+  all_first x xs all = all 0 x (omega arith)
+
+  pub all_others : (x : A) (xs : List A) → All P (x ∷ xs) → All P xs
+  all_others x xs all k d lt = all (suc k) d (omega arith)
+
+  pub all_more : (x : A) (xs : List A) → P x → All P xs → All P (x ∷ xs)
+  all_more x xs own all zero d lt = own
+  all_more x xs own all (suc k) d lt = all k d (omega arith)
+
+  pub all_insert : (xs : List A) (i : ℕ) (y : A) → P y → All P xs → All P (insert xs i y)
+  all_insert [] zero y own all = all_more y [] own all
+  all_insert [] (suc i) y own all = all_more y [] own all
+  all_insert (x ∷ xs) zero y own all = all_more y (x ∷ xs) own all
+  all_insert (x ∷ xs) (suc i) y own all =
+      all_more x (insert xs i y) (all_first x xs all) (all_insert xs i y own (all_others x xs all))
+
+  pub all_remove : (xs : List A) (i : ℕ) → All P xs → All P (remove xs i)
+  all_remove [] zero all = all
+  all_remove [] (suc i) all = all
+  all_remove (x ∷ xs) zero all = all_others x xs all
+  all_remove (x ∷ xs) (suc i) all = all_more x (remove xs i) (all_first x xs all) (all_remove xs i (all_others x xs all))
+
+  pub all_pushed : (xs : List A) (y : A) → P y → All P xs → All P (xs ++ y ∷ [])
+  all_pushed [] y own all = all_more y [] own all
+  all_pushed (x ∷ xs) y own all =
+      all_more x (xs ++ y ∷ []) (all_first x xs all) (all_pushed xs y own (all_others x xs all))
+
+pub remove_set : {A : Type 0} (xs : List A) (i : ℕ) (y : A) → remove (set xs i y) i ≡ remove xs i
+remove_set [] i y = refl
+remove_set (x ∷ xs) zero y = refl
+remove_set (x ∷ xs) (suc i) y = ap (λ zs. x ∷ zs) (remove_set xs i y)
+
+pub map_insert : {A B : Type 0} (f : A → B) (xs : List A) (i : ℕ) (y : A) → map f (insert xs i y) ≡ insert (map f xs) i (f y)
+map_insert f [] zero y = refl
+map_insert f [] (suc i) y = refl
+map_insert f (x ∷ xs) zero y = refl
+map_insert f (x ∷ xs) (suc i) y = ap (λ zs. f x ∷ zs) (map_insert f xs i y)
+
+pub map_remove : {A B : Type 0} (f : A → B) (xs : List A) (i : ℕ) → map f (remove xs i) ≡ remove (map f xs) i
+map_remove f [] zero = refl
+map_remove f [] (suc i) = refl
+map_remove f (x ∷ xs) zero = refl
+map_remove f (x ∷ xs) (suc i) = ap (λ zs. f x ∷ zs) (map_remove f xs i)
+
+pub block_at : (vs : List (Vec ℕ)) (b : ℕ) (d : Vec ℕ) → b < length vs → get_or (blocks_of vs) b [] ≡ (get_or vs b d).items
+block_at [] b d lt = absurd (omega arith)
+block_at (v ∷ vs) zero d lt = refl
+block_at (v ∷ vs) (suc b) d lt = block_at vs b d (omega arith)
+
+pub count_of : (vs : List (Vec ℕ)) → length (blocks_of vs) ≡ length vs
+count_of [] = refl
+count_of (v ∷ vs) = ap suc (count_of vs)
+
+pub read_at : (vs : List (Vec ℕ)) (b : ℕ) (v : Vec ℕ) → b < length vs → v ≡ get_or vs b v → v.items ≡ get_or (blocks_of vs) b []
+read_at vs b v lt is = ap (λ (w : Vec ℕ). w.items) is ∙ sym (block_at vs b v lt)
+
+pub set_at : (vs : List (Vec ℕ)) (b : ℕ) (v : Vec ℕ) → blocks_of (set vs b v) ≡ set (blocks_of vs) b v.items
+set_at vs b v = map-set (λ (w : Vec ℕ). w.items) vs b v
+
+pub insert_at : (vs : List (Vec ℕ)) (b : ℕ) (v : Vec ℕ) → blocks_of (insert vs b v) ≡ insert (blocks_of vs) b v.items
+insert_at vs b v = map_insert (λ (w : Vec ℕ). w.items) vs b v
+
+-- ---- blocks that have a number
+
+pub blocks_set : (bs : List (List ℕ)) (b : ℕ) (v : List ℕ) → 0 < length v → AreBlocks bs → AreBlocks (set bs b v)
+blocks_set [] b v some are = are
+blocks_set (x ∷ bs) zero v some are = are
+blocks_set (x ∷ bs) (suc b) v some are = All-set (λ w. 0 < length w) bs b v some are
+
+-- the only block may have none
+pub blocks_only : (bs : List (List ℕ)) (b : ℕ) (v : List ℕ) → length bs ≤ 1 → AreBlocks bs → AreBlocks (set bs b v)
+blocks_only [] b v one are = are
+blocks_only (x ∷ []) zero v one are = are
+blocks_only (x ∷ []) (suc b) v one are = are
+blocks_only (x ∷ y ∷ bs) b v one are = absurd (omega arith)
+
+pub blocks_insert : (bs : List (List ℕ)) (b : ℕ) (v : List ℕ) → 0 < length v → AreBlocks bs → AreBlocks (insert bs (suc b) v)
+blocks_insert [] b v some are = absurd are
+blocks_insert (x ∷ bs) b v some are = all_insert (λ w. 0 < length w) bs b v some are
+
+pub blocks_remove : (bs : List (List ℕ)) (b : ℕ) → 1 < length bs → AreBlocks bs → AreBlocks (remove bs b)
+blocks_remove [] b more are = absurd are
+blocks_remove (x ∷ []) b more are = absurd (omega arith)
+blocks_remove (x ∷ y ∷ bs) zero more are = all_others (λ w. 0 < length w) y bs are
+blocks_remove (x ∷ y ∷ bs) (suc b) more are = all_remove (λ w. 0 < length w) (y ∷ bs) b are
+
+pub blocks_full : (bs : List (List ℕ)) (b : ℕ) → AreBlocks bs → 0 < b → b < length bs → 0 < length (get_or bs b [])
+blocks_full [] b are some lt = absurd are
+blocks_full (x ∷ bs) zero are some lt = absurd (omega arith)
+blocks_full (x ∷ bs) (suc b) are some lt = All-get_or (λ w. 0 < length w) bs b [] (omega arith) are
+
+-- a block that takes another's place has at most so many numbers and memory for them
+pub each_set : (vs : List (Vec ℕ)) (b : ℕ) (v w : Vec ℕ) → b < length vs → w ≡ get_or vs b w → vec_len v ≤ 512 → vec_capacity v ≡ vec_capacity w → All IsBlock vs → All IsBlock (set vs b v)
+each_set vs b v w lt is few same all =
+    let wide = (all b w lt).capacity in
+    let own = ap vec_capacity is in
+    All-set IsBlock vs b v (record { few = few; capacity = omega arith }) all
+
+pub few_at : (vs : List (Vec ℕ)) (b : ℕ) (v : Vec ℕ) → b < length vs → v ≡ get_or vs b v → All IsBlock vs → vec_len v ≤ 512
+few_at vs b v lt is all =
+    let few = (all b v lt).few in
+    let own = ap vec_len is in
+    omega arith
+
+-- a block is full
+pub full_at : (vs : List (Vec ℕ)) (b : ℕ) (v : Vec ℕ) → b < length (blocks_of vs) → v ≡ get_or vs b v → All IsBlock vs → 512 ≤ vec_len v → length (get_or (blocks_of vs) b []) ≡ 512
+full_at vs b v low is all ge =
+    let count = count_of vs in
+    let lt : b < length vs = omega arith in
+    let few = few_at vs b v lt is all in
+    let items = ap length (read_at vs b v lt is) in
+    let ok = v.ok.0 in
+    omega arith
+
+-- ---- a block that is added at the end
+
+pub pushed_block : (vs ws : List (Vec ℕ)) (v : Vec ℕ) (ns : List ℕ) → ws ≡ vs ++ v ∷ [] → v.items ≡ ns → PushesBlock ns vs ws
+pushed_block vs ws v ns is own = ap blocks_of is ∙ map-append (λ (w : Vec ℕ). w.items) vs (v ∷ []) ∙ ap (λ ms. blocks_of vs ++ ms ∷ []) own
+
+pub pushed_each : (vs ws : List (Vec ℕ)) (v : Vec ℕ) → ws ≡ vs ++ v ∷ [] → IsBlock v → All IsBlock vs → All IsBlock ws
+pushed_each vs ws v is own all = subst (All IsBlock) (sym is) (all_pushed IsBlock vs v own all)
+
+pub pushed_numbers : (bs cs : List (List ℕ)) (ns : List ℕ) → cs ≡ bs ++ ns ∷ [] → concat cs ≡ concat bs ++ ns
+pushed_numbers bs cs ns is = ap concat is ∙ concat-append bs (ns ∷ []) ∙ ap (λ ms. concat bs ++ ms) (append-nil ns)
+
+pub pushed_blocks : (bs cs : List (List ℕ)) (ns : List ℕ) → cs ≡ bs ++ ns ∷ [] → 0 < length ns → AreBlocks bs → AreBlocks cs
+pushed_blocks bs cs ns is some are = subst AreBlocks (sym is) (pushed bs are)
+  where
+    pushed : (ds : List (List ℕ)) → AreBlocks ds → AreBlocks (ds ++ ns ∷ [])
+    pushed [] none = absurd none
+    pushed (d ∷ ds) all = all_pushed (λ w. 0 < length w) ds ns some all
+
+-- the first block may have no number
+pub first_block : (cs : List (List ℕ)) (ns : List ℕ) → cs ≡ [] ++ ns ∷ [] → AreBlocks cs
+first_block cs ns is = subst AreBlocks (sym is) (λ k d lt. absurd (omega arith))
+
+-- ---- a block that is left with no number
+
+module _ (vs : List (Vec ℕ)) (b : ℕ) (v : Vec ℕ) where
+  pub empty_goes : b < length vs → length v.items ≡ 0 → concat (blocks_of (remove (set vs b v) b)) ≡ concat (blocks_of (set vs b v))
+  empty_goes lt none =
+      let same = length-set vs b v in
+      let count = count_of (set vs b v) in
+      let here = block_at (set vs b v) b v (omega arith) ∙ ap (λ (w : Vec ℕ). w.items) (get_or-set_at vs b b v v refl lt) ∙ nil_from_length v.items none in
+      ap concat (map_remove (λ (w : Vec ℕ). w.items) (set vs b v) b) ∙ without_empty (blocks_of (set vs b v)) b (omega arith) here
+
+  pub blocks_left : 1 < length vs → AreBlocks (blocks_of vs) → AreBlocks (blocks_of (remove (set vs b v) b))
+  blocks_left more are =
+      let count = count_of vs in
+      subst AreBlocks (sym (map_remove (λ (w : Vec ℕ). w.items) (set vs b v) b ∙ ap (λ bs. remove bs b) (set_at vs b v) ∙ remove_set (blocks_of vs) b v.items))
+      (blocks_remove (blocks_of vs) b (omega arith) are)
+
+-- ---- a block that is split in two
+
+module _ (lower upper : List ℕ) where
+  parts_in : (bs : List (List ℕ)) (b : ℕ) → b < length bs → get_or bs b [] ≡ lower ++ upper → concat (insert (set bs b lower) (suc b) upper) ≡ concat bs
+  parts_in [] b lt parts = absurd (omega arith)
+  parts_in (x ∷ bs) zero lt parts =
+      sym (append_assoc lower upper (concat bs)) ∙ ap (λ v. v ++ concat bs) (sym parts)
+  parts_in (x ∷ bs) (suc b) lt parts = ap (λ zs. x ++ zs) (parts_in bs b (omega arith) parts)
+
+  lower_part : (bs : List (List ℕ)) (b : ℕ) → b < length bs → get_or (insert (set bs b lower) (suc b) upper) b [] ≡ lower
+  lower_part [] b lt = absurd (omega arith)
+  lower_part (x ∷ bs) zero lt = refl
+  lower_part (x ∷ bs) (suc b) lt = lower_part bs b (omega arith)
+
+  upper_part : (bs : List (List ℕ)) (b : ℕ) → b < length bs → get_or (insert (set bs b lower) (suc b) upper) (suc b) [] ≡ upper
+  upper_part [] b lt = absurd (omega arith)
+  upper_part (x ∷ bs) zero lt = refl
+  upper_part (x ∷ bs) (suc b) lt = upper_part bs b (omega arith)
+
+  lower_place : (bs : List (List ℕ)) (b o : ℕ) → b < length bs → place_in (insert (set bs b lower) (suc b) upper) b o ≡ place_in bs b o
+  lower_place [] b o lt = absurd (omega arith)
+  lower_place (x ∷ bs) zero o lt = refl
+  lower_place (x ∷ bs) (suc b) o lt =
+      place_behind x (insert (set bs b lower) (suc b) upper) b o
+      ∙ ap (λ n. length x + n) (lower_place bs b o (omega arith))
+      ∙ sym (place_behind x bs b o)
+
+  parts_count : (bs : List (List ℕ)) (b : ℕ) → b < length bs → length (insert (set bs b lower) (suc b) upper) ≡ length bs + 1
+  parts_count bs b lt =
+      let same = length-set bs b lower in
+      length-insert (set bs b lower) (suc b) upper (omega arith) ∙ ap (λ n. n + 1) same
+
+-- the halves of a full block
+module _ (bs : List (List ℕ)) (b : ℕ) (lt : b < length bs) (full : length (get_or bs b []) ≡ 512) where
+  lower_size : length (take 256 (get_or bs b [])) ≡ 256
+  lower_size = length-take-le 256 (get_or bs b []) (omega arith)
+
+  upper_size : length (drop 256 (get_or bs b [])) ≡ 256
+  upper_size = let all = length-drop 256 (get_or bs b []) in omega arith
+
+  pub split_numbers : concat (split_at bs b) ≡ concat bs
+  split_numbers = parts_in (take 256 (get_or bs b [])) (drop 256 (get_or bs b [])) bs b lt (sym (take-append-drop 256 (get_or bs b [])))
+
+  pub split_blocks : AreBlocks bs → AreBlocks (split_at bs b)
+  split_blocks are =
+      let low = lower_size in
+      let high = upper_size in
+      blocks_insert (set bs b (take 256 (get_or bs b []))) b (drop 256 (get_or bs b [])) (omega arith) (blocks_set bs b (take 256 (get_or bs b [])) (omega arith) are)
+
+  pub split_here : (s : Spot) → s.block ≡ b → s.offset ≤ 256 → IsOpenAt (split_at bs b) s
+  split_here s at le =
+      let count = parts_count (take 256 (get_or bs b [])) (drop 256 (get_or bs b [])) bs b lt in
+      let size : length (get_or (split_at bs b) s.block []) ≡ 256 = ap (λ n. length (get_or (split_at bs b) n [])) at ∙ ap length (lower_part (take 256 (get_or bs b [])) (drop 256 (get_or bs b [])) bs b lt) ∙ lower_size in
+      record { block = omega arith; offset = omega arith; few = omega arith }
+
+  pub split_there : (s : Spot) → s.block ≡ suc b → s.offset ≤ 256 → IsOpenAt (split_at bs b) s
+  split_there s at le =
+      let count = parts_count (take 256 (get_or bs b [])) (drop 256 (get_or bs b [])) bs b lt in
+      let size : length (get_or (split_at bs b) s.block []) ≡ 256 = ap (λ n. length (get_or (split_at bs b) n [])) at ∙ ap length (upper_part (take 256 (get_or bs b [])) (drop 256 (get_or bs b [])) bs b lt) ∙ upper_size in
+      record { block = omega arith; offset = omega arith; few = omega arith }
+
+  pub place_there : (s : Spot) → s.block ≡ suc b → place_of (split_at bs b) s ≡ place_in bs b (s.offset + 256)
+  place_there s at =
+      let count = parts_count (take 256 (get_or bs b [])) (drop 256 (get_or bs b [])) bs b lt in
+      let next = place_next (split_at bs b) b s.offset (omega arith) in
+      let size = ap length (lower_part (take 256 (get_or bs b [])) (drop 256 (get_or bs b [])) bs b lt) ∙ lower_size in
+      let before = lower_place (take 256 (get_or bs b [])) (drop 256 (get_or bs b [])) bs b (length (get_or (split_at bs b) b [])) lt in
+      ap (λ n. place_in (split_at bs b) n s.offset) at ∙ next ∙ omega arith
+
+-- the same of blocks with memory
+module _ (vs : List (Vec ℕ)) (b : ℕ) (lower upper : Vec ℕ) where
+  pub parts_of : lower.items ≡ take 256 (get_or (blocks_of vs) b []) → upper.items ≡ drop 256 (get_or (blocks_of vs) b []) → blocks_of (insert (set vs b lower) (suc b) upper) ≡ split_at (blocks_of vs) b
+  parts_of low high =
+      insert_at (set vs b lower) (suc b) upper
+      ∙ ap (λ bs. insert bs (suc b) upper.items) (set_at vs b lower)
+      ∙ ap (λ ns. insert (set (blocks_of vs) b ns) (suc b) upper.items) low
+      ∙ ap (insert (set (blocks_of vs) b (take 256 (get_or (blocks_of vs) b []))) (suc b)) high
+
+  pub parts_each : IsBlock lower → IsBlock upper → All IsBlock vs → All IsBlock (insert (set vs b lower) (suc b) upper)
+  parts_each one other all = all_insert IsBlock (set vs b lower) (suc b) upper other (All-set IsBlock vs b lower one all)

@@ -1,0 +1,39 @@
+use Rattle.std.proofs.Common.{[], ◌∷◌, ◌++◌, length, sym, ◌∙◌, ap, subst, arith, append_assoc, append-nil, eqb-true}
+use Rattle.std.proofs.lemmas.List.{nil_from_length}
+use Rattle.std.specs.List.{All, concat}
+use Rattle.mls_tree_index.specs.Blocks.{IsBlock, blocks_of}
+use Rattle.mls_tree_index.proofs.BlockLaws.{first_block, pushed_blocks, pushed_numbers}
+use Rattle.mls_tree_index.proofs.StepLaws.{at_least}
+use Rattle.mls_tree_index.proofs.blocks.Blocks.new.Goals as goal
+
+pub loop-rest-init : goal.loop-rest-init
+loop-rest-init c =
+    let none = c.new-list.ensures.items in
+    let first = c.split_at.result.0.now in
+    let is = c.in_ok-push_block.ensures.blocks ∙ ap (λ vs. blocks_of vs ++ first ∷ []) none in
+    record {
+      blocks = first_block _ first is;
+      numbers = ap (λ ns. ns ++ c.split_at.result.1.now) (pushed_numbers [] _ first is) ∙ sym c.split_at.ensures.by_index.0;
+      each = c.in_ok-push_block.ensures.each (subst (All IsBlock) (sym none) (λ k d lt. absurd (omega arith)));
+    }
+
+pub loop-rest-preserved : goal.loop-rest-preserved
+loop-rest-preserved c =
+    let before = c.loop-rest.invariant in
+    let next = c.split_at-in-loop-rest.result.0.now in
+    let others = c.split_at-in-loop-rest.result.1.now in
+    let bs = blocks_of c.loop-rest.list.items in
+    let is = c.in_ok-push_block-2.ensures.blocks in
+    let some = at_least (length c.loop-rest.rest.now) (sym c.is_empty.ensures ∙ c.loop-rest-test.true) in
+    let size = c.min-in-loop-rest.ensures in
+    let long = c.split_at-in-loop-rest.ensures.front_len in
+    record {
+      blocks = pushed_blocks bs _ next is (omega arith) before.blocks;
+      numbers = ap (λ ns. ns ++ others) (pushed_numbers bs _ next is) ∙ append_assoc (concat bs) next others ∙ ap (λ ns. concat bs ++ ns) (sym c.split_at-in-loop-rest.ensures.by_index.0) ∙ before.numbers;
+      each = c.in_ok-push_block-2.ensures.each before.each;
+    }
+
+pub returns : goal.returns
+returns c =
+    let bs = blocks_of c.loop-rest.list.items in
+    sym (append-nil (concat bs)) ∙ ap (λ ns. concat bs ++ ns) (sym (nil_from_length c.loop-rest.rest.now (eqb-true (length c.loop-rest.rest.now) 0 (sym c.is_empty.ensures ∙ c.loop-rest-test.false)))) ∙ c.loop-rest.invariant.numbers
