@@ -22,7 +22,7 @@ pub struct Digits {
 /// 2^51, what a digit counts to.
 const BASE: u64 = 2251799813685248;
 
-/// The same for the sums of products.
+/// 2^51, for the sums of products.
 const WIDE_BASE: u128 = 2251799813685248;
 
 /// What 2^255 leaves modulo the prime.

@@ -183,7 +183,7 @@ bytes_at held index =
     some_bytes held >>= λ xs. if nat_lt index (length xs)
     then Ok (tells (get_or xs index 0), held) else Err (number_of BufferLength)
 
--- bytes that are copied into a buffer of just their length
+-- bytes that are copied into a buffer of exactly their length
 unfoldable pub bytes_for : Shown → List ℕ → Result (List ℕ) ℕ
 bytes_for held old =
     some_bytes held >>= λ xs.
@@ -345,7 +345,7 @@ abbrev pub IsTwo : List ℕ → Option (List ℕ) → ℕ → Fruit → Type 0
 IsTwo xs ys n f = fruits f ≡ (Some (bytes xs), option_map bytes ys, n)
 
 -- what is made of a member that is saved, in a handle: the bytes that its saved form spells, or `TooLong` (6) where
--- that has no spelling of an input's length; memory aside
+-- that has no spelling of an input's length; or `OutOfMemory`
 abbrev pub SavesMember : Member → Result Fruit ℕ → Type 0
 SavesMember m (Ok f) =
     FitsInput (saved_of m) × (fruits f ≡ makes (bytes (saved_member.spell (saved_of m))))

@@ -21,7 +21,7 @@ pub struct CopyOutcome {
     pub answer: u32,
 }
 
-/// Copies bytes into a buffer of just their length.
+/// Copies bytes into a buffer of exactly their length.
 #[tactic(auto, unfolding(crate::specs::Calls::bytes_for))]
 fn fill_buffer(held: &Held, buffer: &mut [u8]) -> u32
     ensures { Copies (shown held.now) buffer.old buffer.new result }
@@ -47,7 +47,7 @@ pub(crate) fn copy_out(held: Held, buffer: &mut [u8]) -> CopyOutcome
     CopyOutcome { held, answer }
 }
 
-/// Copies the bytes of a handle into a buffer of just their length.
+/// Copies the bytes of a handle into a buffer of exactly their length.
 pub(crate) unsafe fn copy_bytes(at: *mut Handle, buffer: &mut [u8]) -> u32
     ghost held: { Held }
     requires* memory { sem 𝓛 (held_at at held) }

@@ -50,7 +50,7 @@ pub unsafe extern "C" fn mls_free(alloc: Global, handle: *mut Handle) -> u32
     free_handle(alloc, handle)
 }
 
-/// Copies bytes into a buffer of just their length: `BufferLength` (135) where it has another, and is as it was.
+/// Copies bytes into a buffer of exactly their length: `BufferLength` (135) where it has another, and is as it was.
 #[unsafe(no_mangle)]
 pub unsafe extern "C" fn mls_bytes_copy(bytes: *mut Handle, buffer: &mut [u8]) -> u32
     ghost held: { Held }

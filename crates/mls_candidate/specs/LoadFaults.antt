@@ -1,4 +1,4 @@
--- The numbers and names of what loading refuses, and what is refused whatever memory there is.
+-- The numbers and names of what loading refuses, and what is refused also when an allocation fails.
 use Rattle.std.specs.Prelude.{ℕ, List, Result, codes}
 use Rattle.mls_wire.specs.Names.{refusal_name}
 use Rattle.mls_wire.specs.Whole.{whole}
@@ -32,7 +32,7 @@ name_of OtherKey = codes "OtherKey"
 abbrev pub candidate_by : Parts → Candidate
 candidate_by p = record { offered = p.offered; init = p.init; leaf = p.leaf; signing = p.signing }
 
--- faults of decoding are answered whatever memory there is
+-- faults of decoding are answered also when an allocation fails
 abbrev pub RefusesUndecoded : {A : Type 0} → List ℕ → Result A CandidateLoadError → Type 0
 RefusesUndecoded bytes result =
     RefusesOutright number_of (whole saved_candidate input_limit bytes) result

@@ -117,7 +117,7 @@ pub record SpellsGoodTree (c : Crypto) (group spelled : List ℕ) : Type 0 where
   pub is_read : tree_in spelled ≡ Ok tree
   pub good : IsGood (rules_of c group) tree
 
--- A page ends good just where the bytes spell a good tree of the group.
+-- A page ends good exactly when the bytes spell a good tree of the group.
 abbrev pub JudgesTree : Crypto → List ℕ → List ℕ → code.Page Line → Type 0
 JudgesTree c group spelled page = (page.ending ≡ Good) ↔ SpellsGoodTree c group spelled
 

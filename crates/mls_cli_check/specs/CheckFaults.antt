@@ -1,4 +1,4 @@
--- The numbers of what `mls check` refuses, and which refusals come whatever memory there is.
+-- The numbers of what `mls check` refuses, and which refusals come also when an allocation fails.
 use Rattle.std.specs.Prelude.{◌≡◌, ◌≢◌, ℕ, List, Result, Err, IfErr, IsOk, MatchResult}
 use Rattle.mls_wire.specs.Whole.{whole}
 use Rattle.mls_leaf.specs.Limits.{input_limit}
@@ -27,13 +27,13 @@ abbrev pub ChecksOutright : {A B : Type 0} → Result A ℕ → Result B CheckEr
 ChecksOutright defined result =
     MatchResult result (λ _. IsOk defined) (λ (e : CheckError). defined ≡ Err (number_of e))
 
--- Bytes that spell no message are refused, and not for want of memory.
+-- Bytes that spell no message are refused, also when an allocation fails.
 abbrev pub RefusesMessage : {A : Type 0} → List ℕ → Result A CheckError → Type 0
 RefusesMessage bytes result =
     (n : ℕ) → whole mls_message input_limit bytes ≡ Err n
     → IfErr result (λ (e : CheckError). number_of e ≢ 1)
 
--- Bytes that spell no nodes are refused, and not for want of memory.
+-- Bytes that spell no nodes are refused, also when an allocation fails.
 abbrev pub RefusesNodes : {A : Type 0} → List ℕ → Result A CheckError → Type 0
 RefusesNodes bytes result =
     (n : ℕ) → whole ratchet_tree input_limit bytes ≡ Err n

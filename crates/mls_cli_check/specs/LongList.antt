@@ -9,7 +9,7 @@ use Rattle.mls_treemath.specs.Paths.{nodes_in}
 use Rattle.mls_cli_check.specs.CheckFaults.{number_of}
 use Rattle.mls_cli_check.specs.declared.check_error.CheckError.{CheckError}
 
--- Bytes that spell more nodes than a tree has are refused, and not for want of memory.
+-- Bytes that spell more nodes than a tree has are refused, also when an allocation fails.
 abbrev pub RefusesMany : {A : Type 0} → List ℕ → Result A CheckError → Type 0
 RefusesMany bytes result =
     (cells : List (Option Node)) → whole ratchet_tree input_limit bytes ≡ Ok cells

@@ -43,7 +43,7 @@ fn group_info_of(message: MlsMessage) -> Result<GroupInfo, CheckError>
 /// `WrongMessageKind` (95).
 pub(crate) fn group_info_in(alloc: Global, bytes: &[u8]) -> Result<GroupInfo, CheckError>
     ensures info { Answers (λ info. info) number_of (group_info_in bytes.now) result }
-    // Bytes that spell no message are refused whatever memory there is.
+    // Bytes that spell no message are refused also when an allocation fails.
     ensures outright { RefusesMessage bytes.now result }
     ensures short { IfOk result (λ info. IsShort group_info info) }
 {
@@ -236,7 +236,7 @@ pub fn group_info_text<S: Suite, T: Suite>(
     bytes: &[u8],
 ) -> Result<Page<Line>, AllocError>
     ensures page { MakesPage result (group_info_text S.crypto T.crypto bytes.now) }
-    // Bytes that spell no message are refused whatever memory there is.
+    // Bytes that spell no message are refused also when an allocation fails.
     ensures outright { (n : ℕ) → whole mls_message input_limit bytes.now ≡ Err n → IsOk result }
 {
     match group_info_in(alloc, bytes) {

@@ -157,9 +157,9 @@ pub fn check_text<S: Suite>(
 ) -> Result<Page<Line>, AllocError>
     requires { length group_id.now ≤ input_limit }
     ensures page { MakesPage result (check_text S.crypto bytes.now group_id.now) }
-    // Bytes that spell no nodes are refused whatever memory there is.
+    // Bytes that spell no nodes are refused also when an allocation fails.
     ensures outright { (n : ℕ) → whole ratchet_tree input_limit bytes.now ≡ Err n → IsOk result }
-    // Nothing is refused just where the bytes spell a good tree of the group.
+    // Nothing is refused exactly when the bytes spell a good tree of the group.
     ensures good { IfOk result (λ page. JudgesTree S.crypto group_id.now bytes.now page) }
 {
     bytes_page::<S>(alloc, bytes, group_id)

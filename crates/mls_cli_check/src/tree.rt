@@ -21,7 +21,7 @@ use std::alloc::{AllocError, Global};
 /// its shape (`TreeShape` (20)) or its size (`TreeFull` (21)).
 pub fn tree_in(alloc: Global, bytes: &[u8]) -> Result<PublicTree, CheckError>
     ensures tree { Answers term number_of (tree_in bytes.now) result }
-    // Bytes that spell no nodes, or more than a tree has, are refused whatever memory there is.
+    // Bytes that spell no nodes, or more than a tree has, are refused also when an allocation fails.
     ensures outright { RefusesNodes bytes.now result }
     ensures long { RefusesMany bytes.now result }
     // The leaves of an input are short, as it is itself.

@@ -52,7 +52,7 @@ abbrev pub is_bad_json : {A : Type 0} → Result A ℕ → Bool
 is_bad_json (Ok x) = false
 is_bad_json (Err n) = n == 9
 
--- There is a place just where the file is refused so.
+-- There is a place exactly when the file is refused so.
 abbrev pub TellsBadJson : {A : Type 0} → Result A ℕ → Option JsonPlace → Type 0
 TellsBadJson read found = is_some found ≡ is_bad_json read
 

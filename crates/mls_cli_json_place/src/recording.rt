@@ -120,7 +120,7 @@ pub fn place_of_recording(
     text: &[u8],
 ) -> Result<Option<JsonPlace>, AllocError>
     ensures place { IfOk result (λ place. spots place ≡ recording_spot number text.now) }
-    // A place is answered just where the recording is refused so.
+    // A place is answered exactly when the recording is refused so.
     ensures refusal { IfOk result (λ place. TellsBadJson (recording number text.now) place) }
 {
     match value_or_stop(alloc, text)? {

@@ -54,7 +54,7 @@ fn array_place(value: &Value) -> Option<JsonPlace>
 #[tactic(auto, using(crate::proofs::FileLaws::vectors_told))]
 pub fn place_of_vectors(alloc: Global, text: &[u8]) -> Result<Option<JsonPlace>, AllocError>
     ensures place { IfOk result (λ place. spots place ≡ vectors_spot text.now) }
-    // A place is answered just where the file is refused so.
+    // A place is answered exactly when the file is refused so.
     ensures refusal { IfOk result (λ place. TellsBadJson (claims_in text.now) place) }
 {
     match value_or_stop(alloc, text)? {

@@ -24,7 +24,7 @@ abbrev pub whole_end : Result (List ℕ) Found → Option Found
 whole_end (Ok rest) = if length rest == 0 then None else Some (at_front rest 3)
 whole_end (Err f) = Some f
 
--- the first fault of an input, of which there is one just where it is refused: `TooLong` (6) is one of the whole
+-- the first fault of an input, of which there is one exactly when it is refused: `TooLong` (6) is one of the whole
 abbrev pub first_fault : Walk → List ℕ → Option Found
 first_fault walk bytes =
     if nat_lt input_limit (length bytes) then Some (at_front bytes 6) else whole_end (walk bytes)
@@ -48,10 +48,10 @@ abbrev pub refusal_of : {A : Type 0} → Result A ℕ → Option ℕ
 refusal_of (Ok x) = None
 refusal_of (Err n) = Some n
 
--- A fault is found just where reading refuses, and it is the one that reading answers.
+-- A fault is found exactly when reading refuses, and it is the one that reading answers.
 abbrev pub IsFaultOf : {A : Type 0} → Result A ℕ → Option Found → Type 0
 IsFaultOf read found = option_map (λ (f : Found). f.fault) found ≡ refusal_of read
 
--- A place is answered just where reading refuses, and has the fault that reading answers.
+-- A place is answered exactly when reading refuses, and has the fault that reading answers.
 abbrev pub IsOfRefusal : {A : Type 0} → Result A ℕ → Option Place → Type 0
 IsOfRefusal read place = option_map (λ (p : Place). p.fault) place ≡ refusal_of read

@@ -40,7 +40,7 @@ node_is_fit c xs x = list_all c.key_ok (cell_keys (slice_index_or xs x None))
 abbrev pub node_stands : List (Option Node) → ℕ → Bool
 node_stands xs x = may_stand (x % 2 == 0) (slice_index_or xs x None)
 
--- whether a rule of the whole tree holds: it does just where no number was found
+-- whether a rule of the whole tree holds: it does exactly when no number was found
 abbrev pub TellsRule : Bool → Option ℕ → Type 0
 TellsRule holds found = MatchOption found (holds ≡ true) (λ _. holds ≡ false)
 

@@ -89,7 +89,7 @@ fn fault_of<T: Located>(bytes: &[u8]) -> Option<Found>
 #[tactic(auto, unfolding(crate::specs::Place::place_in_message))]
 pub fn place_of_message(bytes: &[u8]) -> Option<Place>
     ensures place { result ≡ place_in_message bytes.now }
-    // A place is answered just where decoding refuses, and has the same number.
+    // A place is answered exactly when decoding refuses, and has the same number.
     ensures refusal { IsOfRefusal (whole mls_message input_limit bytes.now) result }
     ensures within { IfSome result (λ p. p.offset ≤ length bytes.now) }
 {
@@ -107,7 +107,7 @@ pub fn place_of_message(bytes: &[u8]) -> Option<Place>
 #[tactic(auto, unfolding(crate::specs::Place::place_in_tree))]
 pub fn place_of_tree(bytes: &[u8]) -> Option<Place>
     ensures place { result ≡ place_in_tree bytes.now }
-    // A place is answered just where decoding refuses, and has the same number.
+    // A place is answered exactly when decoding refuses, and has the same number.
     ensures refusal { IsOfRefusal (whole ratchet_tree input_limit bytes.now) result }
     ensures within { IfSome result (λ p. p.offset ≤ length bytes.now) }
 {

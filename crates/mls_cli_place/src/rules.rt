@@ -61,8 +61,8 @@ fn unsigned_leaf<S: Suite>(
     Ok(None)
 }
 
-/// The first member whose signature isn't its own (RFC 9420, 7.3): there is one just where a tree's check of signatures
-/// fails (`LeafSignature` (51)).
+/// The first member whose signature isn't its own (RFC 9420, 7.3): there is one exactly when a tree's check of
+/// signatures fails (`LeafSignature` (51)).
 #[tactic(auto, using(crate::proofs::Members::signed_told))]
 pub fn first_unsigned<S: Suite>(
     alloc: Global,
@@ -103,7 +103,7 @@ fn incapable_leaf(tree: &PublicTree, suite: u16) -> Option<u32>
     None
 }
 
-/// The first member that lacks a capability (RFC 9420, 7.3): there is one just where a tree's check of capabilities
+/// The first member that lacks a capability (RFC 9420, 7.3): there is one exactly when a tree's check of capabilities
 /// fails (`LeafCapability` (52)). It takes no memory.
 #[tactic(auto, using(crate::proofs::Members::capable_told))]
 pub fn first_incapable<S: Suite>(tree: &PublicTree) -> Option<u32>

@@ -41,7 +41,7 @@ IsRecordOf c d rs p =
     (text : List ℕ) × IsTextOf text (record_of (reply_texts c rs) (end_texts c rs) d)
     × (p ≡ printout file_text (good (text ∷ [])))
 
--- the same of a file
+-- a text of a file's JSON, with what the actions came to
 abbrev pub IsRecord : Crypto → List ℕ → List Recorded → Printout → Type 0
 IsRecord c file rs p = (d : Data) × (data_in file ≡ Some d) × IsRecordOf c d rs p
 

@@ -324,7 +324,7 @@ SayDifferences seats texts result =
 abbrev pub closing_text : List Seat → Option (List (List ℕ)) → List ℕ
 closing_text seats lines = flat_map entry_text (closing_entries seats lines)
 
--- the same, where these lines are expected
+-- what is printed in the end where these lines are expected
 abbrev pub end_text : List Seat → Option (Bor (List (String Global))) → List ℕ
 end_text seats lines = closing_text seats (texts_of lines)
 

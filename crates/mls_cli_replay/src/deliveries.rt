@@ -76,7 +76,7 @@ fn tally_with(tally: Tally, reply: Reply) -> Tally
     }
 }
 
-/// Delivers a source to a member: a refusal is the reply, but for want of memory, at which the world is as before.
+/// Delivers a source to a member: a refusal is the reply; `OutOfMemory` leaves the world as before.
 #[tactic(auto, unfolding(mls_model::specs::Run::step, mls_model::specs::Run::answer))]
 fn deliver<S: Suite>(
     world: &mut World<S>,

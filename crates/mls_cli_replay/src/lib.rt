@@ -128,7 +128,7 @@ pub fn replay<S: Suite, O: Output>(alloc: Global, file: &[u8], out: &mut O) -> R
     // The output grows by the replay's text, or on a fault by less than that.
     ensures prints { PrintsReplay O.contents out.old out.new S.crypto file.now result }
     ensures status { IfOk result (λ status. status ≤ 1) }
-    // A fault of the output comes just where a write fails.
+    // A fault of the output comes exactly when a write fails.
     ensures fault { O.failed out.new ≡ write_failed (O.failed out.old) result }
     ensures written { IfErr result (λ e. e ≢ Fault.Read) }
 {
@@ -169,7 +169,7 @@ pub fn replay_message<S: Suite, O: Output, P: Progress>(
     // The output grows by the message's text, or on a fault by less than that.
     ensures prints { PrintsMessage O.contents out.old out.new S.crypto number file.now result }
     ensures status { IfOk result (λ status. status ≤ 1) }
-    // A fault of the output comes just where a write fails.
+    // A fault of the output comes exactly when a write fails.
     ensures fault { O.failed out.new ≡ write_failed (O.failed out.old) result }
     ensures written { IfErr result (λ e. e ≢ Fault.Read) }
     ensures reports { ReportsFile P.reports S.crypto file.now progress.old progress.new result }
@@ -293,7 +293,7 @@ pub fn print_view<S: Suite, O: Output, P: Progress>(
     // The output grows by the view's text, or on a fault by less than that.
     ensures prints { PrintsView O.contents out.old out.new S.crypto view file.now result }
     ensures status { IfOk result (λ status. status ≤ 1) }
-    // A fault of the output comes just where a write fails.
+    // A fault of the output comes exactly when a write fails.
     ensures fault { O.failed out.new ≡ write_failed (O.failed out.old) result }
     ensures written { IfErr result (λ e. e ≢ Fault.Read) }
     // Each action of the recording is reported once, in order; on a fault those that were done before.

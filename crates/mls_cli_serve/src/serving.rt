@@ -102,7 +102,7 @@ fn print_request<I: Input, O: Output, E: Write, P: Progress>(
     ensures prints { PrintsRead I.remaining O.contents request.now.job file.old
         out.old out.new result }
     ensures status { IfOk result (λ status. status ≤ 1) }
-    // A fault of the output comes just where a write has failed, and one of the file where a read has.
+    // A fault of the output comes exactly when a write has failed, and one of the file where a read has.
     ensures write { O.failed out.new ≡ write_failed (O.failed out.old) result }
     ensures read { I.failed file.new ≡ read_failed (I.failed file.old) result }
     ensures unread { result ≡ Err Fault.Read → Keeps (O.contents out.old) (O.contents out.new) }

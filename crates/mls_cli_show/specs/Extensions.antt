@@ -1,5 +1,5 @@
 -- The lines of the extensions that a group carries. Each name stands behind a prefix, which is
--- empty but for those of a proposal in a commit.
+-- empty except for those of a proposal in a commit.
 use Rattle.std.specs.Prelude.{ℕ, List, codes, map}
 use Rattle.mls_leaf.specs.declared.extension.Extension.{Extension}
 use Rattle.mls_cli_text.specs.Text.{Entry, entry, extension}

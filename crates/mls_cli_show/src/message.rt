@@ -63,7 +63,7 @@ pub fn message_lines(
 /// The lines of the MLSMessage that the bytes spell, or its first fault (2 to 7, 11 to 14).
 pub fn show_text(alloc: Global, detail: Detail, bytes: &[u8]) -> Result<Vec<Line>, LeafError>
     ensures lines { Gives (λ lines. map entry_of lines.items) result (text_of detail bytes.now) }
-    // A fault is answered whatever memory there is.
+    // A fault is answered also when an allocation fails.
     ensures outright { FaultsOutright (text_of detail bytes.now) result }
 {
     let message = MlsMessage::decode(alloc, bytes)?;

@@ -79,7 +79,7 @@ pub fn print_page<L: Printed + Drop, O: Output>(
     // The output grows by the page's text, or on a fault by less than that.
     ensures prints { PrintsPage L.text (O.contents out.old) (O.contents out.new) page.now result }
     ensures status { IfOk result (λ status. status ≤ 1) }
-    // A fault of the output comes just where a write fails.
+    // A fault of the output comes exactly when a write fails.
     ensures fault { O.failed out.new ≡ write_failed (O.failed out.old) result }
     ensures written { IfErr result (λ e. e ≢ Fault.Read) }
 {

@@ -35,7 +35,7 @@ abbrev pub HasChange : PublicState → List Extension → Edits → Term → Lis
 HasChange p list e t said signature o = o.change ≡ change_of p list e t said signature
 
 -- The call answers the change that a commit makes whose FramedContent is spelled so, or refuses with the number of the
--- first check that fails, memory aside (RFC 9420, 12.4.2).
+-- first check that fails, or with `OutOfMemory` (RFC 9420, 12.4.2).
 abbrev pub Changes : Crypto → PublicState → ℕ → List Used → Commit → List ℕ → List ℕ →
     Result Outcome CommitError → Type 0
 Changes c p committer used commit said signature result =

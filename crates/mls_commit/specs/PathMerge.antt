@@ -22,13 +22,14 @@ abbrev pub is_own : PathBase → Bool
 is_own GroupTree = true
 is_own EditedTree = false
 
--- The call merges a leaf and keys into a tree, or refuses with the number of what fails, memory aside (RFC 9420, 7.5).
+-- The call merges a leaf and keys into a tree, or refuses with the number of what fails, or with `OutOfMemory`
+-- (RFC 9420, 7.5).
 abbrev pub MergesPath : Term → ℕ → LeafNode → List (List ℕ) → Result NextTree TreeError → Type 0
 MergesPath t i leaf keys result =
     Answers (next_term t) number_of_tree (merge_answer t i leaf keys) result
 
 -- The call checks the committer's path and merges it into the edited tree, or refuses with the number of the first
--- check that fails, memory aside (RFC 9420, 12.4.2).
+-- check that fails, or with `OutOfMemory` (RFC 9420, 12.4.2).
 abbrev pub AppliesPath : Crypto → PublicState → ℕ → Edits → UpdatePath →
     Result NextTree CommitError → Type 0
 AppliesPath c p committer e path result =

@@ -42,7 +42,7 @@ conversation_of m = do
 abbrev pub MakesConversation : Member → Result State ConversationError → Type 0
 MakesConversation m result = Answers (λ s. s) number_of (conversation_of m) result
 
--- it refuses so whatever memory there is
+-- it refuses so also when an allocation fails
 abbrev pub RefusesConversation : Member → Result State ConversationError → Type 0
 RefusesConversation m result = (n : ℕ) → conversation_of m ≡ Err n
     → IsErrAnd result (λ e. number_of e ≡ n)

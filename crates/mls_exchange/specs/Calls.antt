@@ -32,11 +32,11 @@ GivesBytes defined result = Answers (λ v. v.items) number_of defined result
 abbrev pub Passes : {A : Type 0} → Result Passed ℕ → Result A ExchangeError → Type 0
 Passes defined result = Answers (λ _. passed) number_of defined result
 
--- The same of a call that takes no memory.
+-- These checks pass, or a call that takes no memory refuses with the number of the first that fails.
 abbrev pub PassesOutright : {A : Type 0} → Result Passed ℕ → Result A ExchangeError → Type 0
 PassesOutright defined result = AnswersOutright (λ _. passed) number_of defined result
 
--- What the definition refuses, the call refuses with that number, whatever memory there is.
+-- What the definition refuses, the call refuses with that number, also when an allocation fails.
 abbrev pub RefusesOutright : {A B : Type 0} → Result A ℕ → Result B ExchangeError → Type 0
 RefusesOutright defined result = (n : ℕ) → defined ≡ Err n → IsErrAnd result (λ e. number_of e ≡ n)
 

@@ -163,7 +163,7 @@ fn welcome(alloc: Global, to: &Candidate<Glass>, info: &[u8]) -> Result<Vec<u8>>
     Ok(bytes)
 }
 
-/// The first candidate, as a member of a group whose tree is full but for its last leaf.
+/// The first candidate, as a member of a group whose tree is full except for its last leaf.
 fn nearly_full(alloc: Global) -> Result<Box<Member<Glass>>> {
     let nodes = taken_nodes(alloc, MAX_LEAVES - 1)?;
     let tree_hash = hash_of(&nodes)?;

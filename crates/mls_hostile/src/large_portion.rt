@@ -1,5 +1,5 @@
 //! A group of forty: a Welcome for twenty, and commits of thirty proposals. Each answer is one that was worked out by
-//! hand: member k stands at leaf k, but for members 40 to 44, who are added at leaves 20 to 24.
+//! hand: member k stands at leaf k, except for members 40 to 44, who are added at leaves 20 to 24.
 
 use crate::acts::{Act, Parts, event_of};
 use crate::outcome::Outcome;

@@ -29,7 +29,7 @@ pub fn joined(alloc: Global, pieces: &[&[u8]]) -> Result<Vec<u8>>
     Ok(bytes)
 }
 
-/// The bytes but for the last ones.
+/// The bytes except for the last ones.
 pub fn without_last(bytes: &[u8], behind: usize) -> &[u8] {
     let (front, _) = bytes.split_at(bytes.len().saturating_sub(behind));
     front

@@ -42,8 +42,8 @@ welcome_outer_checks number bytes = do
 abbrev pub Joins : Candidate → Result JoinedMember ℕ → Result Entrance JoinError → Type 0
 Joins k defined result = Answers (joined_by k) number_of defined result
 
--- The call makes each candidate the member with these keys in this tree, or refuses with the number of what fails,
--- memory aside.
+-- The call makes each candidate the member with these keys in this tree, or refuses with the number of what fails, or
+-- with `OutOfMemory`.
 abbrev pub EntersGroup : Opened → Term → PrivateKeys → Result Entrance JoinError → Type 0
 EntersGroup opened t keys result =
     (k : Candidate) → Joins k (enter_group k (opened_by opened) t keys) result

@@ -49,8 +49,8 @@ abbrev pub is_at : LeafNode → Option LeafNode → Bool
 is_at leaf None = false
 is_at leaf (Some x) = is_same_leaf x leaf
 
--- The call answers a new member's keys: with a path secret those that it gives, else its leaf's alone; or it refuses with
--- the number of what fails, memory aside.
+-- The call answers a new member's keys: with a path secret those that it gives, else its leaf's alone; or it refuses
+-- with the number of what fails, or with `OutOfMemory`.
 abbrev pub GivesKeys : Crypto → Term → ℕ → ℕ → List ℕ → Option (List ℕ) →
     Result PrivateKeys JoinError → Type 0
 GivesKeys c t signer place own path_secret result =

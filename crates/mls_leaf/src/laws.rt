@@ -16,7 +16,7 @@ pub fn laws_of_signed_parts()
     ensures key_package { KeyPackageIsSpelled }
 {}
 
-/// Byte strings, leaves and the extensions of a group are equal by `==` just where they are the same.
+/// Byte strings, leaves and the extensions of a group are equal by `==` exactly when they are the same.
 pub fn laws_of_equality()
     ensures byte_strings { (x y : List ℕ) → Decides (⟦<Bytes as PartialEq>⟧.eq x y) (x ≡ y) }
     ensures leaves { (v w : LeafNode) → Decides (⟦<LeafNode as PartialEq>⟧.eq v w) (v ≡ w) }

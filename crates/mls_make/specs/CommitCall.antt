@@ -79,23 +79,24 @@ abbrev pub AreUsedBy : List ProposalOrRef → List Used → Type 0
 AreUsedBy list used =
     (kept : List KeptProposal) × ((leaf : ℕ) × (find_proposals kept leaf list ≡ Ok used))
 
--- The call makes the speaker's commit of a list with these edits and this path, or refuses with the number of what fails,
--- memory aside.
+-- The call makes the speaker's commit of a list with these edits and this path, or refuses with the number of what
+-- fails, or with `OutOfMemory`.
 abbrev pub CommitsPath : Crypto → Speaker → List ProposalOrRef → List Used → Edits → OwnPath →
     List ℕ → Result NewCommit MakeError → Type 0
 CommitsPath c s list used e own seed result =
     (m : Member) (wants : Bool) → Speaks m s → IsOwnPath c m used e wants seed own →
     Answers made_as number_of (commit_from_path c m list used e (made_own_path own) seed) result
 
--- The call makes the speaker's commit of a list that uses these proposals, or refuses with the number of what fails, memory
--- aside.
+-- The call makes the speaker's commit of a list that uses these proposals, or refuses with the number of what fails, or
+-- with `OutOfMemory`.
 abbrev pub CommitsList : Crypto → Speaker → PrivateKeys → List ProposalOrRef → List Used → Bool →
     List ℕ → Result NewCommit MakeError → Type 0
 CommitsList c s keys list used wants seed result =
     (m : Member) → Speaks m s → m.keys ≡ keys → find_proposals m.kept m.keys.leaf list ≡ Ok used →
     Answers made_as number_of (commit_from_proposals c m list used wants seed) result
 
--- The call adds the Welcome and the next state to a sent commit, or refuses with the number of what fails, memory aside.
+-- The call adds the Welcome and the next state to a sent commit, or refuses with the number of what fails, or with
+-- `OutOfMemory`.
 abbrev pub AddsWelcome : Crypto → Speaker → List Used → SentCommit → Option (Bor PathSecrets) →
     PrivateKeys → ℕ → List ℕ → Result NewCommit MakeError → Type 0
 AddsWelcome c s used sent secrets keys first seed result =

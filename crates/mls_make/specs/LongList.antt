@@ -35,7 +35,7 @@ IsRefusalPast (Ok made) n = n ≡ 6
 IsRefusalPast (Err k) n = n ≡ k
 
 -- The refusal is that of the speaker's path, whatever extensions the path is made for, and `TooLong` (6) where the path
--- is made, memory aside.
+-- is made, or with `OutOfMemory`.
 abbrev pub RefusesLongList : Crypto → Speaker → PrivateKeys → Edits → List Used → Bool → List ℕ →
     MakeError → Type 0
 RefusesLongList c s keys e used wants seed error =

@@ -28,7 +28,7 @@ abbrev pub made_own_path : OwnPath → MadePath
 made_own_path o =
     record { path = o.path; climb = record { secret = o.commit_secret; keys = all_keys o.keys } }
 
--- the secrets of a path of leaf i are there just where the path is, and are those of the seed's chain
+-- the secrets of a path of leaf i are there exactly when the path is, and are those of the seed's chain
 abbrev pub HaveSecrets : Crypto → ℕ → Edits → List ℕ → Option UpdatePath → Option PathSecrets →
     Type 0
 HaveSecrets c i e seed None None = Unit {0}
@@ -58,7 +58,7 @@ abbrev pub IsNoPath : PrivateKeys → Edits → OwnPath → Type 0
 IsNoPath keys e o = (m : Member) → m.keys ≡ keys → made_own_path o ≡ no_path m e
 
 -- The call makes a path of the speaker for a commit with these extensions, where one is wanted or required, or refuses
--- with the number of the first check that fails, memory aside.
+-- with the number of the first check that fails, or with `OutOfMemory`.
 abbrev pub MakesPath : Crypto → Speaker → PrivateKeys → List Extension → Edits → List Used → Bool →
     List ℕ → Result OwnPath MakeError → Type 0
 MakesPath c s keys carried e used wants seed result =

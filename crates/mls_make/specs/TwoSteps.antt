@@ -124,15 +124,15 @@ IsShortCommit s said =
     length (commit_format.spell commit) ≤ input_limit
 
 -- The call sends the speaker's commit with these extensions, these edits, this tree and this commit secret, or refuses
--- with `TooLong` (6) where its message is too large, memory aside.
+-- with `TooLong` (6) where its message is too large, or with `OutOfMemory`.
 abbrev pub SendsCommit : Crypto → Speaker → List Extension → Commit → Edits → Tree → List ℕ →
     Result declared.SentCommit MakeError → Type 0
 SendsCommit c s carried commit e tree secret result =
     (m : Member) → Speaks m s →
     Answers sent_as number_of (send_commit c m carried commit e (term tree) secret) result
 
--- The call makes the Welcome of a group for its joiners, where there are any, from the speaker, or refuses with the number
--- of what fails, memory aside.
+-- The call makes the Welcome of a group for its joiners, where there are any, from the speaker, or refuses with the
+-- number of what fails, or with `OutOfMemory`.
 abbrev pub WelcomesFrom : Crypto → Speaker → PublicState → List ℕ → List ℕ → List Joiner → List ℕ →
     ℕ → Result (Option (Vec ℕ)) MakeError → Type 0
 WelcomesFrom c s p tag joiner_secret joiners seed first result =

@@ -72,14 +72,14 @@ abbrev pub used_kept : KeptProposal → Used
 used_kept k = record { proposal = k.proposal; sender = k.sender; is_full = false }
 
 -- The call answers the proposals that a list uses, with their senders, or refuses with `UnknownReference` (60) where a
--- reference isn't kept, memory aside.
+-- reference isn't kept, or with `OutOfMemory`.
 abbrev pub Finds : List KeptProposal → ℕ → List ProposalOrRef → Result (Vec Used) Refusal → Type 0
 Finds kept committer list result =
     Answers (λ v. v.items) number_of (find_proposals kept committer list) result
 
 -- ---- commits
 
--- The call makes a commit of these proposals, or refuses with the number of what fails, memory aside.
+-- The call makes a commit of these proposals, or refuses with the number of what fails, or with `OutOfMemory`.
 abbrev pub MakesCommit : Crypto → Member → List Item → Bool → List ℕ → Result NewCommit Refusal →
     Type 0
 MakesCommit c m items path seed result =
@@ -90,7 +90,7 @@ abbrev pub Commits : Result ((List ℕ × Option (List ℕ)) × Member) ℕ → 
     Result Made Refusal → Type 0
 Commits defined old new result = DoesAs messages_of number_of defined old new result
 
--- The call commits these proposals, or refuses with the number of what fails, memory aside.
+-- The call commits these proposals, or refuses with the number of what fails, or with `OutOfMemory`.
 abbrev pub CommitsItems : Crypto → List Item → Bool → List ℕ → Member → Member →
     Result Made Refusal → Type 0
 CommitsItems c items path seed old new result =
@@ -112,7 +112,7 @@ RefusesLast m result =
 
 -- ---- creations and joins
 
--- A call makes the member that the definition does, or refuses with its number, memory aside.
+-- A call makes the member that the definition does, or refuses with its number or `OutOfMemory`.
 abbrev pub Joins : {S : Type 0} → Result model.JoinedMember ℕ → Result (Joined S) Refusal → Type 0
 Joins defined result = Answers joined_as number_of defined result
 
@@ -124,6 +124,6 @@ AdmitsGood c k result = IsGoodCandidate c k → IfOk result (λ j. IsGoodMember 
 abbrev pub CreatesGood : Crypto → Candidate → Result Member Refusal → Type 0
 CreatesGood c k result = IsGoodCandidate c k → IfOk result (λ m. IsGoodMember c m)
 
--- faults of decoding, `NotWelcome` (70) and `WrongSuite` (71) are answered whatever memory there is
+-- faults of decoding, `NotWelcome` (70) and `WrongSuite` (71) are answered also when an allocation fails
 abbrev pub RefusesOuter : {A : Type 0} → ℕ → List ℕ → Result A Refusal → Type 0
 RefusesOuter number bytes result = RefusesOutright number_of (welcome_outer_checks number bytes) result

@@ -16,8 +16,8 @@ use Rattle.mls_member.specs.declared.inspect.Inspection.{Inspection}
 abbrev pub inspection_as : {S : Type 0} → Inspection S → Effect × Member
 inspection_as x = (x.effect, x.member)
 
--- The call answers the effect and the member after it, or refuses with the number of the first check that fails, memory
--- aside.
+-- The call answers the effect and the member after it, or refuses with the number of the first check that fails, or
+-- with `OutOfMemory`.
 abbrev pub Inspects : {S : Type 0} → Result (Effect × Member) ℕ → Result (Inspection S) Refusal →
     Type 0
 Inspects defined result = Answers inspection_as number_of defined result

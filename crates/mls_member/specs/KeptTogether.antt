@@ -61,7 +61,7 @@ gives_way me all later sender (Update leaf) =
 gives_way me all later sender (Remove leaf) = (leaf == me) || list_any (removes leaf) later
 gives_way me all later sender (GroupContextExtensions list) = list_any sets_extensions later
 
--- the same of a kept proposal, with its sender
+-- whether the member leaves out a kept proposal, by its sender
 abbrev pub is_left_out : ℕ → List KeptProposal → List KeptProposal → KeptProposal → Bool
 is_left_out me all later k = gives_way me all later k.sender k.proposal
 
@@ -94,7 +94,8 @@ left_out_of m = map (λ (k : KeptProposal). k.reference) (apart m.keys.leaf m.ke
 abbrev pub kept_messages : KeptCommit → List ℕ × Option (List ℕ)
 kept_messages x = messages_of x.made
 
--- The call commits the kept proposals that go together, or refuses with the number of what fails, memory aside.
+-- The call commits the kept proposals that go together, or refuses with the number of what fails, or with
+-- `OutOfMemory`.
 abbrev pub CommitsKept : Crypto → Bool → List ℕ → Member → Member → Result KeptCommit Refusal →
     Type 0
 CommitsKept c path seed old new result =

@@ -46,7 +46,7 @@ commit_proposals m bytes =
     public_message bytes >>= λ v. proposals_of_body m.kept (sender_leaf v.content.sender)
     v.content.body
 
--- The call lists these proposals, or refuses with this number, memory aside.
+-- The call lists these proposals, or refuses with this number, unless it is `OutOfMemory`.
 abbrev pub Lists : Result (List ListedProposal) ℕ → Result (Vec ListedProposal) Refusal → Type 0
 Lists defined result = Answers (λ v. v.items) number_of defined result
 

@@ -58,7 +58,8 @@ updated_answer c m seed =
 abbrev pub own_leaf_check : Member → Result Passed ℕ
 own_leaf_check m = member_check m.public.tree m.keys.leaf
 
--- a member that wasn't removed refuses with `NoSuchLeaf` (22) where no member is at the leaf, whatever memory there is
+-- a member that wasn't removed refuses with `NoSuchLeaf` (22) where no member is at the leaf, also when an allocation
+-- fails
 abbrev pub RefusesNonMember : {A : Type 0} → Member → ℕ → Result A Refusal → Type 0
 RefusesNonMember m leaf result =
     m.gone ≡ false → RefusesOutright number_of (member_check m.public.tree leaf) result
@@ -67,19 +68,20 @@ RefusesNonMember m leaf result =
 abbrev pub Proposes : Result (List ℕ × Member) ℕ → Member → Member → Result (Vec ℕ) Refusal → Type 0
 Proposes defined old new result = DoesAs (λ v. v.items) number_of defined old new result
 
--- The call proposes to add a KeyPackage, or refuses with the number of what fails, memory aside.
+-- The call proposes to add a KeyPackage, or refuses with the number of what fails, or with `OutOfMemory`.
 abbrev pub ProposesAdd : Crypto → KeyPackage → Member → Member → Result (Vec ℕ) Refusal → Type 0
 ProposesAdd c offered old new result = Proposes (propose_add c old offered) old new result
 
--- The call proposes an update by a seed, or refuses with the number of what fails, memory aside.
+-- The call proposes an update by a seed, or refuses with the number of what fails, or with `OutOfMemory`.
 abbrev pub ProposesUpdate : Crypto → List ℕ → Member → Member → Result (Vec ℕ) Refusal → Type 0
 ProposesUpdate c seed old new result = Proposes (propose_update c old seed) old new result
 
--- The call proposes to remove the member at a leaf, or refuses with the number of what fails, memory aside.
+-- The call proposes to remove the member at a leaf, or refuses with the number of what fails, or with `OutOfMemory`.
 abbrev pub ProposesRemove : Crypto → ℕ → Member → Member → Result (Vec ℕ) Refusal → Type 0
 ProposesRemove c leaf old new result = Proposes (propose_remove c old leaf) old new result
 
--- The call proposes that the group carry these extensions, or refuses with the number of what fails, memory aside.
+-- The call proposes that the group carry these extensions, or refuses with the number of what fails, or with
+-- `OutOfMemory`.
 abbrev pub ProposesExtensions : Crypto → List Extension → Member → Member → Result (Vec ℕ) Refusal →
     Type 0
 ProposesExtensions c list old new result = Proposes (propose_extensions c old list) old new result
@@ -98,7 +100,7 @@ KeepsSent said proposal own_key old new result =
     Proposes (keep_sent_proposal old said.message.items said.reference proposal own_key) old new
     result
 
--- The call sends a proposal and keeps it, or refuses with the number of what fails, memory aside.
+-- The call sends a proposal and keeps it, or refuses with the number of what fails, or with `OutOfMemory`.
 abbrev pub SendsAndKeeps : Crypto → Proposal → Option (List ℕ) → Member → Member →
     Result (Vec ℕ) Refusal → Type 0
 SendsAndKeeps c proposal own_key old new result =

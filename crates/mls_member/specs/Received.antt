@@ -45,18 +45,18 @@ use Rattle.mls_member.specs.declared.received_commit.Reached.{Reached}
 abbrev pub TakesPending : {A : Type 0} → Member → Member → Option A → Type 0
 TakesPending old new result = MatchOption result (new ≡ old) (λ _. new ≡ without_pending old)
 
--- a member that wasn't removed follows its own pending commit, whatever memory there is
+-- a member that wasn't removed follows its own pending commit, also when an allocation fails
 abbrev pub FollowsPendingOutright : {A : Type 0} → Member → List ℕ → Result A Refusal → Type 0
 FollowsPendingOutright m bytes result = m.gone ≡ false → IsSome (own_pending m.pending bytes) → IsOk result
 
 -- of other bytes, a member that wasn't removed answers faults of decoding and `NotPublicMessage` (41) to
--- `BadMembershipTag` (46) whatever memory there is
+-- `BadMembershipTag` (46) also when an allocation fails
 abbrev pub RefusesOthers : {A : Type 0} → Member → List ℕ → Result A Refusal → Type 0
 RefusesOthers m bytes result =
     m.gone ≡ false → own_pending m.pending bytes ≡ None →
     RefusesOutright number_of (message_outer_checks m bytes) result
 
--- The call does what the bytes say, or refuses with the number of the first check that fails, memory aside.
+-- The call does what the bytes say, or refuses with the number of the first check that fails, or with `OutOfMemory`.
 abbrev pub TakesBytes : Crypto → List ℕ → Member → Member → Result Effect Refusal → Type 0
 TakesBytes c bytes old new result = Does (bytes_verdict c old bytes) old new result
 
@@ -72,7 +72,7 @@ abbrev pub LendsSender : Member → PublicMessageView → Result (Bor LeafNode) 
 LendsSender m view result =
     (shown : PublicMessage) → ShowsPublic view shown → LendsLeaf (sender_of m shown) result
 
--- `WrongGroup` (42) to `BadMembershipTag` (46) are answered whatever memory there is
+-- `WrongGroup` (42) to `BadMembershipTag` (46) are answered also when an allocation fails
 abbrev pub RefusesSender : {A : Type 0} → Member → PublicMessageView → Result A Refusal → Type 0
 RefusesSender m view result =
     (shown : PublicMessage) → ShowsPublic view shown →
@@ -90,23 +90,23 @@ TellsSigned c m view key b =
     (shown : PublicMessage) → ShowsPublic view shown →
     b ≡ is_content_signed c key shown.content m.public.context
 
--- The signature and the sender pass their checks, or the call refuses with `BadSignature` (47) or `OwnUnknown` (48),
--- memory aside.
+-- The signature and the sender pass their checks, or the call refuses with `BadSignature` (47), `OwnUnknown` (48) or
+-- `OutOfMemory`.
 abbrev pub ChecksSender : {A : Type 0} → Crypto → Member → PublicMessageView → List ℕ → LeafNode →
     Result A Refusal → Type 0
 ChecksSender c m view bytes leaf result =
     (shown : PublicMessage) → ShowsPublic view shown →
     Answers (λ _. passed) number_of (check_sender c m shown bytes leaf) result
 
--- The message passes the checks of every message, or the call refuses with the number of the first that fails, memory
--- aside.
+-- The message passes the checks of every message, or the call refuses with the number of the first that fails, or with
+-- `OutOfMemory`.
 abbrev pub ChecksFraming : {A : Type 0} → Crypto → Member → PublicMessageView → List ℕ →
     Result A Refusal → Type 0
 ChecksFraming c m view bytes result =
     (shown : PublicMessage) → ShowsPublic view shown →
     Answers (λ _. passed) number_of (framing_checks c m shown bytes) result
 
--- The call does what the message says, or refuses with the number of the first check that fails, memory aside.
+-- The call does what the message says, or refuses with the number of the first check that fails, or with `OutOfMemory`.
 abbrev pub TakesMessage : Crypto → PublicMessageView → List ℕ → Member → Member →
     Result Effect Refusal → Type 0
 TakesMessage c view bytes old new result =
@@ -115,14 +115,15 @@ TakesMessage c view bytes old new result =
 
 -- ---- a proposal
 
--- The call keeps a proposal that passes its checks, or refuses with the number of the first that fails, memory aside.
+-- The call keeps a proposal that passes its checks, or refuses with the number of the first that fails, or with
+-- `OutOfMemory`.
 abbrev pub KeepsNew : Crypto → List ℕ → ℕ → List ℕ → Proposal → Member → Member →
     Result Effect Refusal → Type 0
 KeepsNew c reference sender bytes proposal old new result =
     Does (new_proposal c old reference sender bytes proposal) old new result
 
--- The call does what the message with this proposal says, or refuses with the number of the first check that fails,
--- memory aside.
+-- The call does what the message with this proposal says, or refuses with the number of the first check that fails, or
+-- with `OutOfMemory`.
 abbrev pub TakesProposal : Crypto → PublicMessageView → List ℕ → List ℕ → Member → Member →
     Result Effect Refusal → Type 0
 TakesProposal c view bytes part old new result =
@@ -140,7 +141,8 @@ SpellsList list text = Spells (vector proposal_or_ref proposal_or_ref_nonempty) 
 abbrev pub FollowsEdits : Option (Bor (List ℕ)) → Tree → PrivateKeys → PrivateKeys → Type 0
 FollowsEdits own t old new = new ≡ follow_edits (option_copied own) (term t) old
 
--- The call opens a commit's path with the keys after its edits, or refuses with the number of what fails, memory aside.
+-- The call opens a commit's path with the keys after its edits, or refuses with the number of what fails, or with
+-- `OutOfMemory`.
 abbrev pub OpensPath : Crypto → Edits → ℕ → UpdatePath → PrivateKeys → List ℕ →
     Result Reached Refusal → Type 0
 OpensPath c e committer path keys context result =
@@ -149,7 +151,7 @@ OpensPath c e committer path keys context result =
     result
 
 -- The call answers what a commit makes of the public state and whether it removes the member, or refuses with the
--- number of the first check that fails, memory aside.
+-- number of the first check that fails, or with `OutOfMemory`.
 abbrev pub ChecksCommit : Crypto → Member → ℕ → Commit → List ℕ → List ℕ →
     Result (Outcome × Bool) Refusal → Type 0
 ChecksCommit c m committer commit said signature result =
@@ -158,7 +160,7 @@ ChecksCommit c m committer commit said signature result =
     result
 
 -- The call answers the commit secret and the member's keys in the new tree, or refuses with the number of what fails,
--- memory aside.
+-- or with `OutOfMemory`.
 abbrev pub OpensSecret : Crypto → Member → ℕ → Outcome → Commit → Result Reached Refusal → Type 0
 OpensSecret c m committer r commit result =
     Answers (λ r. climb_to r.secret r.keys) number_of
@@ -173,21 +175,21 @@ epoch_after m secret r =
 abbrev pub tag_after : List ℕ → Outcome → List ℕ
 tag_after epoch r = confirmation_tag epoch r.change.context.confirmed_transcript_hash
 
--- The call enters the next epoch, or refuses with `BadConfirmationTag` (65), memory aside.
+-- The call enters the next epoch, or refuses with `BadConfirmationTag` (65) or `OutOfMemory`.
 abbrev pub EntersEpoch : Outcome → Reached → List ℕ → Member → Member → Result Effect Refusal →
     Type 0
 EntersEpoch r reached tag old new result =
     Does (enter_epoch_with old r.change reached.secret reached.keys tag) old new result
 
--- The call follows a commit that isn't the last, or refuses with the number of what fails, memory aside.
+-- The call follows a commit that isn't the last, or refuses with the number of what fails, or with `OutOfMemory`.
 abbrev pub FollowsCommit : Crypto → ℕ → Commit → List ℕ → List ℕ → List ℕ → Member → Member →
     Result Effect Refusal → Type 0
 FollowsCommit c committer commit said signature tag old new result =
     (content : FramedContent) → framed_content.spell content ≡ said →
     Does (follow_commit c old committer commit content signature tag) old new result
 
--- The call follows the commit that a message shows, or refuses with the number of the first check that fails, memory
--- aside.
+-- The call follows the commit that a message shows, or refuses with the number of the first check that fails, or with
+-- `OutOfMemory`.
 abbrev pub TakesCommit : Crypto → PublicMessageView → List ℕ → List ℕ → Member → Member →
     Result Effect Refusal → Type 0
 TakesCommit c view proposals path old new result =

@@ -134,7 +134,7 @@ load_member c v = do
 unfoldable pub load : Crypto → List ℕ → Result Member ℕ
 load c bytes = whole saved_member input_limit bytes >>= load_member c
 
--- faults of decoding are answered whatever memory there is
+-- faults of decoding are answered also when an allocation fails
 abbrev pub RefusesUndecoded : {A : Type 0} → List ℕ → Result A LoadError → Type 0
 RefusesUndecoded bytes result =
     RefusesOutright number_of (whole saved_member input_limit bytes) result

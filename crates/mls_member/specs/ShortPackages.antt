@@ -11,7 +11,7 @@ use Rattle.mls_public_group.specs.Short.{IsBelow}
 abbrev pub IsShortPackage : KeyPackage → Type 0
 IsShortPackage k = IsBelow (input_limit + 1) key_package k
 
--- The call answers the KeyPackage itself, or refuses one that isn't short with `TooLong` (6), memory aside.
+-- The call answers the KeyPackage itself, or refuses one that isn't short with `TooLong` (6) or `OutOfMemory`.
 abbrev pub TestsLength : KeyPackage → Result KeyPackage LeafError → Type 0
 TestsLength k (Ok tested) = tested ≡ k
 TestsLength k (Err e) = Refuses (IsShortPackage k) e

@@ -25,7 +25,7 @@ use std::marker::{Model, PhantomData};
 
 /// Is a member of a group: the public state of the group, the epoch's secrets, its private keys, the proposals that it
 /// keeps, and its pending commit. One that a good candidate created or joined as is good, and stays so over each call:
-/// its tree is good, and it holds just the private keys that are due to it.
+/// its tree is good, and it holds exactly the private keys that are due to it.
 #[derive(Drop)]
 pub struct Member<S: Suite> {
     pub(crate) gone: bool,

@@ -37,7 +37,8 @@ impl<S: Suite> Member<S> {
     }
 
     /// Does to the member what a message says, or answers the first check that fails (RFC 9420, 6, 12.1 and 12.4.2). A
-    /// member that was removed answers `Gone` (40); any other follows its own pending commit, whatever memory there is.
+    /// member that was removed answers `Gone` (40); any other follows its own pending commit, also when an allocation
+    /// fails.
     #[tactic(auto, unfolding(mls_model::specs::Verdict::verdict, mls_model::specs::Member::with_epoch, mls_model::specs::Member::without_pending))]
     pub fn process(&mut self, bytes: &[u8]) -> Result<Effect, Refusal>
         ensures verdict { Does (verdict S.crypto self.old bytes.now) self.old self.new result }

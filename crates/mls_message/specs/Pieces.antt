@@ -27,7 +27,7 @@ pub record IsUntagged (v : SignedContent) (text : List ℕ) : Type 0 where
   pub spelled : text ≡ untagged v
   pub room : length text + tag_length ≤ input_limit
 
--- each member's message of the content is refused with this number, memory aside
+-- each member's message of the content is refused with this number, unless it is `OutOfMemory`
 abbrev pub IsTooLarge : SignedContent → LeafError → Type 0
 IsTooLarge v e = number_of e ≢ 1 → (m : Member) → limited_text (message_by m v) ≡ Err (number_of e)
 

@@ -17,7 +17,8 @@ use Rattle.mls_message.specs.Speaks.{Speaks}
 use Rattle.mls_message.specs.declared.said_proposal.SaidProposal.{SaidProposal}
 use Rattle.mls_message.specs.declared.speaker.Speaker.{Speaker}
 
--- whatever its signature and its confirmation tag are, the message of a content is refused with this number, memory aside
+-- whatever its signature and its confirmation tag are, the message of a content is refused with this number, unless it
+-- is `OutOfMemory`
 abbrev pub IsRefused : Member → FramedContent → LeafError → Type 0
 IsRefused m said e =
     number_of e ≢ 1 → (signature tag : List ℕ) →
@@ -27,7 +28,7 @@ IsRefused m said e =
 abbrev pub IsSaidBy : Speaker → Content → FramedContent → Type 0
 IsSaidBy s content v = (m : Member) → Speaks m s → v ≡ content_by m content
 
--- The call answers the content as the speaker says it, or refuses each message of it, memory aside.
+-- The call answers the content as the speaker says it, or refuses each message of it, or answers `OutOfMemory`.
 abbrev pub Frames : Speaker → Content → Result FramedContent LeafError → Type 0
 Frames s content result =
     (m : Member) → Speaks m s →
@@ -52,15 +53,15 @@ IsTagBy s v tag = (m : Member) → Speaks m s → tag ≡ content_tag m.epoch_se
 abbrev pub IsMessageBy : Speaker → SignedContent → List ℕ → Type 0
 IsMessageBy s v text = (m : Member) → Speaks m s → limited_text (message_by m v) ≡ Ok text
 
--- The call answers the speaker's message of a content, or refuses with `TooLong` (6) where it is too large, memory
--- aside.
+-- The call answers the speaker's message of a content, or refuses with `TooLong` (6) where it is too large, or with
+-- `OutOfMemory`.
 abbrev pub Sends : {A : Type 0} → Speaker → (A → List ℕ) → SignedContent → Result A LeafError →
     Type 0
 Sends s text v result =
     (m : Member) → Speaks m s → Answers text number_of (limited_text (message_by m v)) result
 
--- The call answers the message of the speaker's proposal, or refuses with `TooLong` (6) where it is too large, memory
--- aside.
+-- The call answers the message of the speaker's proposal, or refuses with `TooLong` (6) where it is too large, or with
+-- `OutOfMemory`.
 abbrev pub SendsProposal : Crypto → Speaker → Proposal → Result SaidProposal LeafError → Type 0
 SendsProposal c s proposal result =
     (m : Member) → Speaks m s →

@@ -144,7 +144,7 @@ JoinsByBytes c w = (i n number : ℕ) (bytes : List ℕ) (source : Source) (d : 
 
 -- ---- keys and trees, whatever bytes came
 
--- each active member has just the private keys that are due on its path (RFC 9420, 7.5)
+-- each active member has exactly the private keys that are due on its path (RFC 9420, 7.5)
 abbrev pub KeysAreExact : Crypto → World → Type 0
 KeysAreExact c w = (k : ℕ) (s : Seat) → IsActive w k s → HasExact c s.member.public.tree s.member.keys
 

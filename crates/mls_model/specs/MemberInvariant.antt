@@ -38,7 +38,7 @@ abbrev pub HasOwnKey : Crypto → Proposal → Option (List ℕ) → Type 0
 HasOwnKey c (proposal.Update leaf) own = (key : List ℕ) × (own ≡ Some key) × (c.public key ≡ leaf.encryption_key)
 HasOwnKey c other own = own ≡ None
 
--- a kept proposal is what its message says, has passed its checks here, and has a private key just where it is an own
+-- a kept proposal is what its message says, has passed its checks here, and has a private key exactly when it is an own
 -- update
 pub record IsGoodKept (c : Crypto) (m : Member) (k : KeptProposal) : Type 0 where
   pub said : PublicMessage

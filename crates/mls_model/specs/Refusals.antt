@@ -1,4 +1,4 @@
--- Which numbers each call of a member and of a candidate can be refused with, want of memory aside.
+-- Which numbers each call of a member and of a candidate can be refused with, besides `OutOfMemory`.
 use Rattle.std.specs.Prelude.{◌≡◌, ℕ, ◌||◌, Bool, true, List, [], ◌∷◌, ◌++◌, Err}
 use Rattle.mls_leaf.specs.WholeLaws.{is_input_fault}
 use Rattle.mls_leaf.specs.declared.extension.Extension.{Extension}

@@ -34,7 +34,7 @@ CreationIsHomemade = is_homemade [] created_0 ≡ true
 abbrev pub NotMadeHere : Type 0
 NotMadeHere = is_homemade [] (with_entry created_0 (entry_with 1)) ≡ false
 
--- a journal is homemade from when another member makes just the commit that was followed
+-- a journal is homemade from when another member makes exactly the commit that was followed
 abbrev pub MadeLater : Type 0
 MadeLater = is_homemade (made_at created_0 1 9 ∷ []) (with_entry created_0 (entry_with 1)) ≡ true
 

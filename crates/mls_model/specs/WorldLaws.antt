@@ -45,7 +45,7 @@ FirstIsFound = (made : List CommitMade) (source : Source) (k : Candidate) (d : C
 abbrev pub NoneIsFor : List CommitMade → Source → Candidate → Type 0
 NoneIsFor made source k = (i : ℕ) (d : CommitMade) → slice_get made i ≡ Some d → IsFor source k d → ⊥
 
--- none is found just where there is none
+-- none is found exactly when there is none
 abbrev pub NoneIsFound : Type 0
 NoneIsFound = (made : List CommitMade) (source : Source) (k : Candidate) → commit_for_joiner made source k ≡ None →
     NoneIsFor made source k

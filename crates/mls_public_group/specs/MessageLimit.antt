@@ -15,6 +15,6 @@ limited_text bytes = require_within_limit bytes >> Ok bytes
 abbrev pub FitsIfShort : {V : Type 0} → Format V → V → Type 0
 FitsIfShort format v = length (format.spell v) < 2 ^ 30 → format.Fits v
 
--- the text is larger than a message may be, and refused with `TooLong` (6), memory aside
+-- the error is `OutOfMemory`, or `TooLong` (6) of a text that is larger than a message may be
 abbrev pub IsLong : List ℕ → LeafError → Type 0
 IsLong text e = number_of e ≢ 1 → (number_of e ≡ 6) × (input_limit < length text)

@@ -17,18 +17,18 @@ use Rattle.mls_public_group.specs.Faults.{number_of}
 abbrev pub member_check : Term → ℕ → Result Passed ℕ
 member_check t i = require 22 (is_some (leaf_of t i))
 
--- of an update, `NoSuchLeaf` (22) is answered where no member is at its sender's leaf, whatever memory there is
+-- of an update, `NoSuchLeaf` (22) is answered where no member is at its sender's leaf, also when an allocation fails
 abbrev pub RefusesUpdate : {A : Type 0} → Term → ℕ → Proposal → Result A GroupError → Type 0
 RefusesUpdate t sender p result =
     (l : LeafNode) → p ≡ Update l → RefusesOutright number_of (member_check t sender) result
 
--- of a remove, the call answers just whether a member is there, and `NoSuchLeaf` (22) where none is, whatever memory
--- there is
+-- of a remove, the call passes exactly when a member is there, and else answers `NoSuchLeaf` (22), also when an
+-- allocation fails
 abbrev pub AnswersRemove : {A : Type 0} → Term → Proposal → Result A GroupError → Type 0
 AnswersRemove t p result =
     (i : ℕ) → p ≡ Remove i → AnswersOutright (λ _. passed) number_of (member_check t i) result
 
--- of extensions, the call answers that they pass, whatever memory there is
+-- of extensions, the call answers that they pass, also when an allocation fails
 abbrev pub AnswersExtensions : {A : Type 0} → Proposal → Result A GroupError → Type 0
 AnswersExtensions p result = (list : List Extension) → p ≡ GroupContextExtensions list → IsOk result
 

@@ -50,13 +50,13 @@ added_references used = map package_reference (adds used)
 abbrev pub with_reference : List (List ℕ) → Used → List (List ℕ)
 with_reference front used = front ++ added_references (used ∷ [])
 
--- The call makes the updates in a tree, or refuses with the number of the first that fails, memory aside.
+-- The call makes the updates in a tree, or refuses with the number of the first that fails, or with `OutOfMemory`.
 abbrev pub AppliesUpdates : {A : Type 0} → List Used → Tree → Tree → Result A GroupError → Type 0
 AppliesUpdates used old new result =
     Answers (λ _. term new) number_of (apply_updates (term old) (updates used)) result
 
--- The call removes the members at these leaves from a tree, or refuses with the number of the first that fails, memory
--- aside.
+-- The call removes the members at these leaves from a tree, or refuses with the number of the first that fails, or with
+-- `OutOfMemory`.
 abbrev pub AppliesRemoves : {A : Type 0} → List ℕ → Tree → Tree → Result A GroupError → Type 0
 AppliesRemoves leaves old new result =
     Answers (λ _. term new) number_of (apply_removes (term old) leaves) result
@@ -66,7 +66,7 @@ abbrev pub edits_of : Tree → List ℕ → Edits
 edits_of t added = record { tree = term t; added = added }
 
 -- The call makes an add in a tree, and puts its leaf behind those that were added before, or refuses with the number of
--- what fails, memory aside. It leaves the tree as it is where the proposal is none.
+-- what fails, or with `OutOfMemory`. It leaves the tree as it is where the proposal is none.
 abbrev pub AppliesAdd : {A : Type 0} → Used → Tree → List ℕ → Tree → List ℕ → Result A GroupError →
     Type 0
 AppliesAdd used old front new added result =
@@ -74,7 +74,7 @@ AppliesAdd used old front new added result =
     (prepend_added front (apply_adds (term old) (adds (used ∷ [])))) result
 
 -- The call makes the adds in a tree, and answers the leaves that they added, or refuses with the number of the first
--- that fails, memory aside.
+-- that fails, or with `OutOfMemory`.
 abbrev pub AppliesAdds : List Used → Tree → Tree → Result (Vec ℕ) GroupError → Type 0
 AppliesAdds used old new result =
     Answers (λ v. edits_of new v.items) number_of (apply_adds (term old) (adds used)) result

@@ -11,6 +11,6 @@ Loads number defined result = Answers (λ x. x) number defined result
 abbrev pub Passes : {A E : Type 0} → (E → ℕ) → Result Passed ℕ → Result A E → Type 0
 Passes number checks result = Answers (λ _. passed) number checks result
 
--- The same of a call that takes no memory.
+-- These checks pass, or a call that takes no memory refuses with the number of the first that fails.
 abbrev pub PassesOutright : {A E : Type 0} → (E → ℕ) → Result Passed ℕ → Result A E → Type 0
 PassesOutright number checks result = AnswersOutright (λ _. passed) number checks result

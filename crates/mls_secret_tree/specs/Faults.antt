@@ -22,6 +22,6 @@ name_of KeyUsed = codes "KeyUsed"
 abbrev pub Gives : {A : Type 0} → Result A ℕ → Result A SecretTreeError → Type 0
 Gives defined result = Answers (λ x. x) number_of defined result
 
--- What the definition refuses, the call refuses with that number, whatever memory there is.
+-- What the definition refuses, the call refuses with that number, also when an allocation fails.
 abbrev pub RefusesOutright : {A B : Type 0} → Result A ℕ → Result B SecretTreeError → Type 0
 RefusesOutright defined result = (n : ℕ) → defined ≡ Err n → IsErrAnd result (λ e. number_of e ≡ n)

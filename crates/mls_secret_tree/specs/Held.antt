@@ -20,7 +20,7 @@ pub data Held : Type 0 where
 abbrev pub Taken : Type 0
 Taken = MessageKey × Held
 
--- the same below a node, where this is held below the other child
+-- what a key is taken from below a node, with what is held below its other child
 unfoldable pub beside : Bool → Held → Taken → Taken
 beside false other taken = (taken.0, Parted taken.1 other)
 beside true other taken = (taken.0, Parted other taken.1)

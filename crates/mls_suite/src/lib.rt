@@ -35,11 +35,10 @@ pub struct Sealed {
     pub ct: Vec<u8>,
 }
 
-/// Is the cryptography of a group (RFC 9420, 5.1). Memory aside, each answer is the function of `crypto`
-/// of the same name, and these functions keep the laws `Lawful`: what is sealed to a private key's
-/// public key is opened by it, what is signed verifies, what is sealed under a key is opened under it,
-/// public keys are fit, a key takes a seal exactly where it is fit, the suite's number has 16 bits, and
-/// keys and signatures are short.
+/// Is the cryptography of a group (RFC 9420, 5.1). Each answer is that of the function of `crypto` of the same name, or
+/// `OutOfMemory`, and these functions keep the laws `Lawful`: what is sealed to a private key's public key is opened by
+/// it, what is signed verifies, what is sealed under a key is opened under it, public keys are fit, a key takes a seal
+/// exactly where it is fit, the suite's number has 16 bits, and keys and signatures are short.
 pub trait Suite {
     /// Is the number of the cipher suite (RFC 9420, 17.1).
     const NUMBER: u16;

@@ -220,7 +220,7 @@ fn answers_of<S: Suite>(
     Ok((counts, prefixes, is_by_hand, opens))
 }
 
-/// The same, of the group of three.
+/// `answers_of` in a new group of three.
 fn answers(alloc: Global) -> Result<((u32, u32), usize, bool, bool), Fail> {
     let mut speakers = new_speakers::<Glass>(alloc, b"group")?;
     Ok(answers_of(alloc, &mut speakers)?)

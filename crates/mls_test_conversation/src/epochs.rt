@@ -28,7 +28,7 @@ fn answers_to_other<S: Suite>(
     Ok((here, number_of_hearing(&mut there.bob, &message)))
 }
 
-/// The same of two new groups of the same candidates.
+/// `answers_to_other` in two new groups of the same candidates.
 fn answers_elsewhere(alloc: Global) -> Result<(u8, u8), Fail> {
     let mut here = new_speakers::<Glass>(alloc, b"group")?;
     let mut there = new_speakers::<Glass>(alloc, b"groep")?;
@@ -66,7 +66,7 @@ fn answers_across<S: Suite>(
     ])
 }
 
-/// The same, where the members have followed the removal.
+/// What is answered after Carol was removed, by conversations of the members that followed the removal.
 fn answers_after<S: Suite>(
     alloc: Global,
     before: &mut Speakers<S>,
@@ -88,7 +88,7 @@ fn answers_of_removal<S: Suite>(
     Ok((of_carol, answers_after(alloc, &mut before, members)?))
 }
 
-/// The same of a new group.
+/// `answers_of_removal` in a new group.
 fn removal_answers(alloc: Global) -> Result<(u8, [u8; 6]), Fail> {
     let mut members = create_trio::<Glass>(alloc, b"group")?;
     answers_of_removal(alloc, &mut members)
@@ -131,7 +131,7 @@ fn answers_between<S: Suite>(
     Ok((first, more, whole, second, goes_on(alice, bob, 2)?))
 }
 
-/// The same of a new group.
+/// `answers_between` in a new group.
 fn refusal_answers(alloc: Global) -> Result<(bool, u8, u8, bool, bool), Fail> {
     let mut speakers = new_speakers::<Glass>(alloc, b"group")?;
     Ok(answers_between(&mut speakers)?)

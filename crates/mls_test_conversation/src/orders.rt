@@ -128,7 +128,7 @@ fn answers_of<S: Suite>(alloc: Global, members: &Trio<S>) -> Result<(u32, u32), 
     Ok((count_orders(alloc, &members.carol, &messages)?, own))
 }
 
-/// The same of a new group.
+/// `answers_of` in a new group.
 fn answers(alloc: Global) -> Result<(u32, u32), Fail> {
     let members = create_trio::<Glass>(alloc, b"group")?;
     answers_of(alloc, &members)
@@ -156,7 +156,7 @@ const AT_WINDOW: [(usize, u8); 8] = [
     (1, 116),
 ];
 
-/// The same of another reader: generation 0 lies 1,001 behind the last that was used.
+/// What another reader answers: generation 0 lies 1,001 behind the last that was used.
 const BEHIND_WINDOW: [(usize, u8); 4] = [(2, 0), (3, 0), (0, 116), (1, 0)];
 
 /// The messages of the kept generations.
@@ -202,7 +202,7 @@ fn window_steps<S: Suite>(
     Ok((at, behind))
 }
 
-/// The same of a new group.
+/// `window_steps` in a new group.
 fn window_answers(alloc: Global) -> Result<(u32, u32), Fail> {
     let mut speakers = new_speakers::<Glass>(alloc, b"group")?;
     Ok(window_steps(alloc, &mut speakers)?)

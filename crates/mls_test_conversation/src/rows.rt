@@ -240,7 +240,7 @@ fn counts_of<S: Suite>(alloc: Global, members: &Trio<S>) -> Result<(u32, u32), F
     Ok((keys, rows_by_hand(alloc, &mut speakers)?))
 }
 
-/// The same of a new group.
+/// How many keys and rows of a new group of three are those by hand.
 fn counts<S: Suite>(alloc: Global) -> Result<(u32, u32), Fail> {
     let members = create_trio::<S>(alloc, b"group")?;
     counts_of(alloc, &members)

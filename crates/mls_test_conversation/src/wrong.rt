@@ -193,7 +193,7 @@ fn answers_of<S: Suite>(
     Ok((count, of_alice, of_bob))
 }
 
-/// The same, of the group of three.
+/// `answers_of` in a new group of three.
 fn answers(alloc: Global) -> Result<(u32, bool, bool), Fail> {
     let mut speakers = new_speakers::<Glass>(alloc, b"group")?;
     Ok(answers_of(alloc, &mut speakers)?)

@@ -40,6 +40,6 @@ IsRefusedRenewal c seed old e = IsRefusedAs (commit_call c old [] true seed) e
 unfoldable pub member_by_welcome : Crypto → Candidate → List ℕ → Result Member ℕ
 member_by_welcome c k bytes = join_verdict c k bytes >>= λ (j : JoinedMember). Ok j.member
 
--- The call answers that member in a box, or refuses with the number of what fails, memory aside.
+-- The call answers that member in a box, or refuses with the number of what fails, or with `OutOfMemory`.
 abbrev pub Enters : Crypto → Candidate → List ℕ → Result (Box Member) Refusal → Type 0
 Enters c k bytes result = Answers (λ m. m.value) number_of (member_by_welcome c k bytes) result

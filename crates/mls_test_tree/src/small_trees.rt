@@ -209,7 +209,7 @@ fn are_at(keys: &[(u64, Secret)], nodes: &[u64]) -> bool {
     keys.len() == nodes.len()
 }
 
-/// Whether it has keys of just these nodes.
+/// Whether it has keys of exactly these nodes.
 pub(crate) fn has_nodes(own: &PrivatePath, nodes: &[u64]) -> bool {
     match keys_of(own) {
         Some(keys) => are_at(&keys, nodes),

@@ -48,7 +48,7 @@ fn trees_of_one_leaf(rt: HostRuntime) -> Result<(), Fail> {
 /// A place with a parent of the key 32 times 0xaa and an empty parent hash, which lists none.
 const PARENT: &str = "010220aaaaaaaaaaaaaaaaaaaaaaaaaaaaaaaaaaaaaaaaaaaaaaaaaaaaaaaaaaaaaaaa0000";
 
-/// The same with the key 32 times 0xab.
+/// A place with a parent of the key 32 times 0xab and an empty parent hash, which lists none.
 const OTHER_PARENT: &str =
     "010220abababababababababababababababababababababababababababababababab0000";
 

@@ -24,7 +24,7 @@ pub record HaveRoom (n : ℕ) (t : KeyIndexes) : Type 0 where
   pub keys : n ≤ t.keys.room
   pub clients : n ≤ t.clients.room
 
--- they are the same but for their memory
+-- they are the same except for their memory
 pub record AreSame (s t : KeyIndexes) : Type 0 where
   pub keys : SameIndex s.keys t.keys
   pub clients : SameIndex s.clients t.clients
@@ -40,7 +40,8 @@ abbrev pub IsClient : List ℕ → Option LeafNode → Type 0
 IsClient key None = ⊥
 IsClient key (Some v) = v.signature_key ≡ key
 
--- the index of keys is of the cells but for those at some places, that of clients too, or of all cells where it is kept
+-- the index of keys is of the cells except for those at some places, that of clients too, or of all cells where it is
+-- kept
 pub record AreBeside (kept : Bool) (places : List ℕ) (cells : List (Option Node)) (t : KeyIndexes) : Type 0 where
   pub encryption : t.keys.kind ≡ Encryption
   pub signature : t.clients.kind ≡ Signature

@@ -31,6 +31,6 @@ abbrev pub IsDraftFor : Term → Draft → Type 0
 IsDraftFor t d = IsDraftOf t d.index d.keys d
 
 -- A call drafts a path with the parent hash that its leaf must have, or refuses with the number of
--- the first check that fails, memory aside.
+-- the first check that fails, or with `OutOfMemory`.
 abbrev pub AnswersDraft : Term → ℕ → List (List ℕ) → Result Draft TreeError → Type 0
 AnswersDraft t i keys result = Answers (λ d. d.hash) number_of (path_hash_answer t i keys) result

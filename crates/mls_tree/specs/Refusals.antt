@@ -10,7 +10,7 @@ use Rattle.mls_tree.specs.Faults.{number_of}
 use Rattle.mls_tree.specs.Paths.{merge_answer, ChangesWhole}
 use Rattle.mls_tree.specs.Tree.{Tree, term, add_answer, update_answer, remove_answer, Changes}
 
--- Where the definition refuses, the call does with the same number, whatever memory there is.
+-- Where the definition refuses, the call does with the same number, also when an allocation fails.
 abbrev pub RefusesOutright : {A B E : Type 0} → (E → ℕ) → Result A ℕ → Result B E → Type 0
 RefusesOutright number defined result = (n : ℕ) → defined ≡ Err n → IsErrAnd result (λ e. number e ≡ n)
 
@@ -26,7 +26,7 @@ PassesOutright defined result = AnswersOutright (λ _. passed) number_of defined
 abbrev pub AnswersList : {A : Type 0} → Result (List A) ℕ → Result (Vec A) TreeError → Type 0
 AnswersList {A} defined result = Answers (λ (v : Vec A). v.items) number_of defined result
 
--- A call refuses where the definition does, with the same number, whatever memory there is.
+-- A call refuses where the definition does, with the same number, also when an allocation fails.
 abbrev pub Refuses : {A B : Type 0} → Result A ℕ → Result B TreeError → Type 0
 Refuses defined result = RefusesOutright number_of defined result
 

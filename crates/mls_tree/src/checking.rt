@@ -203,7 +203,7 @@ impl PublicTree {
         requires group { length group_id.now < 2 ^ 28 }
         requires short { HasShortLeaves (term self.old) }
         ensures answer { AnswersTreeChecks S.crypto group_id.now (term self.old) result }
-        // `UnmergedWrong` (23) comes whatever memory there is.
+        // `UnmergedWrong` (23) comes also when an allocation fails.
         ensures outright { Refuses (require 23 (has_good_lists (term self.old))) result }
         ensures good { OnOk result (IsGoodIfShaped S.crypto group_id.now (term self.old)) }
         ensures same { term self.new ≡ term self.old }

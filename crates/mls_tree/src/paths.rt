@@ -178,7 +178,7 @@ impl PublicTree {
 
     /// How many ciphertexts each node of a path of member i has, the lowest first, where these leaves were just added:
     /// one for each node of the resolution of its child on the copath that isn't one of them (RFC 9420, 7.6).
-    /// `NoSuchLeaf` (22) where no member is at leaf i, whatever memory there is.
+    /// `NoSuchLeaf` (22) where no member is at leaf i, also when an allocation fails.
     pub fn ciphertext_counts(&self, i: u32, added: &[u32]) -> Result<Vec<usize>, TreeError>
         ensures answer { AnswersList (counts_answer (term self.now) i added.now) result }
         ensures outright { Refuses (counts_answer (term self.now) i added.now) result }
@@ -227,7 +227,7 @@ impl PublicTree {
     /// that it may keep more hashes.
     pub fn merge_path(&mut self, i: u32, leaf: LeafNode, keys: Vec<Bytes>) -> Result<(), TreeError>
         ensures answer { AnswersMerge i leaf keys.items self.old self.new result }
-        // `NoSuchLeaf` (22) and `PathLength` (30) come whatever memory there is.
+        // `NoSuchLeaf` (22) and `PathLength` (30) come also when an allocation fails.
         ensures outright { Refuses (path_checks (term self.old) i (length keys.items)) result }
         // A good tree stays good where the leaf and the keys pass the checks.
         ensures good { OnOk result (KeepsGoodAt i leaf keys.items self.old self.new) }

@@ -79,7 +79,7 @@ impl PublicTree {
     ) -> Result<PreparedPath, TreeError>
         requires warm { self.now.hashes ≡ hashes_of 0 (term self.now) }
         ensures answer { AnswersPrepared (term self.now) i leaf keys.items result }
-        // `NoSuchLeaf` (22) and `PathLength` (30) come whatever memory there is.
+        // `NoSuchLeaf` (22) and `PathLength` (30) come also when an allocation fails.
         ensures outright { Refuses (path_checks (term self.now) i (length keys.items)) result }
         ensures prepared { IfOk result (IsPreparedFor (term self.now) i leaf keys.items) }
     {

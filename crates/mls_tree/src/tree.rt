@@ -140,7 +140,7 @@ impl PublicTree {
         Subtree::of(&self.nodes, self.height)
     }
 
-    /// The same with its hashes, where no node is cold.
+    /// The tree as a subtree of itself with its hashes, where no node is cold.
     pub(crate) fn hashed_subtree(&self) -> HashedSubtree<'_>
         requires { self.now.hashes ≡ hashes_of 0 (term self.now) }
         ensures { result ≡ record { first = 0; term = term self.now } }
@@ -240,7 +240,7 @@ impl PublicTree {
 
     /// Adds a member at the leftmost blank leaf, in a tree of twice the leaves where none is blank, and answers its
     /// leaf index (RFC 9420, 12.1.1). Refused with `TreeFull` (21) where that tree would have more than `MAX_LEAVES`
-    /// leaves, whatever memory there is.
+    /// leaves, also when an allocation fails.
     pub fn add(&mut self, leaf: LeafNode) -> Result<u32, TreeError>
         ensures answer { AnswersAdd leaf self.old self.new result }
         ensures outright { Refuses (add_answer (term self.old) leaf) result }

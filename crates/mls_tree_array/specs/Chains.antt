@@ -16,7 +16,7 @@ FindsWitness p side other found = found ≡ witness p side.first side.term other
 abbrev pub FindsWitnessOf : Option Parent → Subtree → Subtree → Option ℕ → Type 0
 FindsWitnessOf c left right found = found ≡ witness_of c left.first left.term right.term
 
--- the same of what stands in a place
+-- the witness of the root that stands in a place over two sides was found
 abbrev pub FindsRootWitness : Option Node → Subtree → Subtree → Option ℕ → Type 0
 FindsRootWitness root left right found = FindsWitnessOf (parent_in root) left right found
 

@@ -54,7 +54,7 @@ fn witness_of(
     }
 }
 
-/// The same of the root over these two sides: None where it is blank.
+/// `witness` of the root over these two sides, either way round: None where it is blank.
 fn root_witness(
     root: &Slot,
     left: &Subtree<'_>,

@@ -203,7 +203,7 @@ fn is_right_reached(nodes: &[Slot], height: u32, middle: usize) -> bool
     is_reached(&Subtree::of(&nodes[middle + 1..], height - 1))
 }
 
-/// Merges a path: replaces leaf i and blanks the parents over it, but for those of the filtered path, which are
+/// Merges a path: replaces leaf i and blanks the parents over it, except for those of the filtered path, which are
 /// replaced by the given ones (RFC 9420, 7.5). Takes no memory.
 pub fn merge(
     nodes: &mut [Slot],

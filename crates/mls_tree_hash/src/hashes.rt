@@ -16,7 +16,7 @@ use crate::pieces::{add_u8, add_u32, add_vector};
 use mls_leaf::{LeafNode, ParentNode};
 
 /// The tree hash of the node whose input the feed holds (RFC 9420, 7.8), which is counted. Each hash of a node is made
-/// here, but for those of original siblings.
+/// here, except for those of original siblings.
 #[inline(always)]
 fn node_hash(feed: &mut Feed, done: &mut u64) -> Hash
     ensures hash { (text : List ℕ) → Holds feed.old text → result ≡ sha256 text }

@@ -19,7 +19,7 @@ pub record Indexes (cells : List (Option Node)) (t : Listing) : Type 0 where
   pub entries : Entries (key_in t.kind cells) t.numbers
   pub repeats : t.repeats ≡ repeats_in (keys_of t.kind cells)
 
--- one but for its memory
+-- one except for its memory
 pub record SameIndex (s t : Listing) : Type 0 where
   pub kind : t.kind ≡ s.kind
   pub numbers : t.numbers ≡ s.numbers

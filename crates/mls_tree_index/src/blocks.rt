@@ -14,7 +14,7 @@ const BLOCK_SIZE: usize = 512;
 /// How many numbers each half of a full block has.
 const HALF_SIZE: usize = BLOCK_SIZE / 2;
 
-/// How many numbers a block of a new list has, but for the last one: fewer than fit, so that no split comes soon.
+/// How many numbers a block of a new list has, except for the last one: fewer than fit, so that no split comes soon.
 const NEW_SIZE: usize = 448;
 
 /// A place of a list in blocks: so many numbers of a block stand before it.

@@ -150,7 +150,7 @@ AddedIsWider = (t : Term) (x : LeafNode) → width t ≤ width (add t x)
 abbrev pub RemovedElsewhere : Type 0
 RemovedElsewhere = (t : Term) (i j : ℕ) → i < width t → j < width t → (j ≡ i → ⊥) → IsSome (leaf_at 0 t j) → (j < width (remove t i)) × (leaf_at 0 (remove t i) j ≡ leaf_at 0 t j)
 
--- an added leaf makes a tree too large just where it has the most leaves and none of them is blank
+-- an added leaf makes a tree too large exactly when it has the most leaves and none of them is blank
 abbrev pub AddedIsWithin : Type 0
 AddedIsWithin = (k : ℕ) (t : Term) (x : LeafNode) → is_perfect (height t) t ≡ true → width t ≤ 2 ^ k → is_within (2 ^ k) (add t x) ≡ not (is_none (first_blank 0 t) && (width t == 2 ^ k))
 

@@ -38,7 +38,7 @@ keys_beside m s ks = keys_below (is_reached m s) ks
 abbrev pub hash_beside : ℕ → Term → List (List ℕ) → List ℕ → List ℕ
 hash_beside m s ks h = hash_below (parent_beside m s ks h) m s h
 
--- a tree with leaf i replaced and the parents over it blanked, but for those of the filtered path: they get these
+-- a tree with leaf i replaced and the parents over it blanked, except for those of the filtered path: they get these
 -- keys, the highest first, and the parent hashes that are handed down from h (RFC 9420, 7.5 and 7.9)
 unfoldable pub merge : ℕ → Term → ℕ → List (List ℕ) → List ℕ → LeafNode → Term
 merge b (Leaf v) i ks h x = Leaf (Some x)

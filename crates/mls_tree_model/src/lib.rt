@@ -28,8 +28,8 @@ pub fn laws_of_shape()
     ensures full_trim { FullTrim }
 {}
 
-/// Leaves under each edit: one changes, or none; an added leaf lands in its place, and makes a tree too large just
-/// where it is full; a removal cuts no other member.
+/// Leaves under each edit: one changes, or none; an added leaf lands in its place, and makes a tree too large exactly
+/// when it is full; a removal cuts no other member.
 pub fn laws_of_leaves()
     ensures put { LeavesOfPut }
     ensures enter { LeavesOfEnter }

@@ -94,7 +94,7 @@ impl Slot {
     }
 
     /// The parent in it, which is copied first where another place shares it. `Absent` is answered exactly
-    /// when there is none, whatever memory there is. Without memory for the copy all stays as it was.
+    /// when there is none, also when an allocation fails. Without memory for the copy all stays as it was.
     pub fn parent_mut(&mut self) -> Result<&mut ParentNode, NoParent>
         ensures* writes_back { sem 𝓛 (lends_parent self.entry result) }
         ensures value { MatchResult result

@@ -70,7 +70,7 @@ abbrev pub FindsPlaces : List ℕ → Option (List ℕ) → Type 0
 FindsPlaces bytes None = (cells : List (Option Node)) → whole ratchet_tree input_limit bytes ≡ Ok cells → ⊥
 FindsPlaces bytes (Some part) = AreNodes bytes part
 
--- Whatever nodes the bytes of a list spell, they are refused so as the nodes of a tree, and not for want of memory.
+-- Whatever nodes the bytes of a list spell, they are refused so as the nodes of a tree, also when an allocation fails.
 abbrev pub RefusesList : List ℕ → TreeError → Type 0
 RefusesList bytes e = ((cells : List (Option Node)) → Spells ratchet_tree cells bytes → from_nodes max_leaves cells ≡ Err (number_of e)) × (number_of e ≢ 1)
 
@@ -82,7 +82,7 @@ IsFewNodes bytes = (cells : List (Option Node)) → Spells ratchet_tree cells by
 abbrev pub sent_tree : List ℕ → Result Term ℕ
 sent_tree bytes = whole ratchet_tree input_limit bytes >>= from_nodes max_leaves
 
--- The tree that the bytes spell is refused so, and not for want of memory.
+-- The tree that the bytes spell is refused so, also when an allocation fails.
 abbrev pub RefusesTree : List ℕ → TreeError → Type 0
 RefusesTree bytes e = (sent_tree bytes ≡ Err (number_of e)) × (number_of e ≢ 1)
 

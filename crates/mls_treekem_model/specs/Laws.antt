@@ -158,7 +158,7 @@ OneFiltered = (b : ℕ) (t : Term) (i j : ℕ) → AreTwo b t i j → IsSome (le
 abbrev pub OneNode : Type 0
 OneNode = (b : ℕ) (t : Term) (i j : ℕ) → AreTwo b t i j → IsSome (leaf_at b t j) → length (filter (λ s. is_beside s j) (filtered_way b t i)) ≡ 1
 
--- a member with exact keys has one just where it has to
+-- a member with exact keys has one exactly when it has to
 abbrev pub KeyWhereHeld : Type 0
 KeyWhereHeld = (c : Crypto) (b : ℕ) (t : Term) (j : ℕ) (ks : Keys) (d : ℕ) → IsIn b t j → Exact c b t j ks → is_some (key_in b t j ks d) ≡ holds_key_of b t j d
 
@@ -174,7 +174,7 @@ OneTarget = (c : Crypto) (added : List ℕ) (b : ℕ) (t : Term) (i j : ℕ) (ks
 abbrev pub EntryKey : Type 0
 EntryKey = (c : Crypto) (b : ℕ) (t : Term) (j : ℕ) (ks : Keys) (d : ℕ) (k : List ℕ) → IsIn b t j → Exact c b t j ks → key_in b t j ks d ≡ Some k → key_at b t d ≡ Some (c.public k)
 
--- as pairs, a member's keys are in the order of their nodes, and just those that it has
+-- as pairs, a member's keys are in the order of their nodes, and exactly those that it has
 abbrev pub PairsInOrder : Type 0
 PairsInOrder = (b : ℕ) (t : Term) (j : ℕ) (ks : Keys) → IsIn b t j → IsInOrder (pairs b t j ks)
 

@@ -76,8 +76,8 @@ MadeReceived = (c : Crypto) → Lawful c → (context : List ℕ) (added : List 
 
 -- ---- which keys are shown
 
--- numbers of nodes with keys are in order, a node is among them just where the member has to have its key, and the key
--- is its node's
+-- numbers of nodes with keys are in order, a node is among them exactly when the member has to have its key, and the
+-- key is its node's
 pub record AreDue (c : Crypto) (t : Term) (p : PrivateKeys) (ps : List (ℕ × List ℕ)) : Type 0 where
   pub in_order : IsInOrder (as_pairs ps)
   pub due : (d : ℕ) → is_some (find_key d (as_pairs ps)) ≡ holds_key_of 0 t p.leaf d

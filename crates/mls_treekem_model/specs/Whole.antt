@@ -157,7 +157,7 @@ RefusedUnopened = (c : Crypto) (context : List ℕ) (added : List ℕ) (t : Term
 abbrev pub keys_from : Term → ℕ → ℕ → List UpdatePathNode → List (List ℕ)
 keys_from t i j path = take (filtered_from (way 0 t i) j) (map (λ n. n.encryption_key) (reverse path))
 
--- where a secret was opened, the path is accepted just where those keys are the public keys of the chain from it, and
+-- where a secret was opened, the path is accepted exactly when those keys are the public keys of the chain from it, and
 -- then the commit secret is the chain's end; else `PathKeyMismatch` (34)
 pub record IsJudged (c : Crypto) (context added : List ℕ) (t : Term) (i j : ℕ) (ks : Keys) (path : List UpdatePathNode) (secret : List ℕ) : Type 0 where
   pub right : keys_from t i j path ≡ chain_keys c secret (filtered_from (way 0 t i) j) → (m : Climb) × (opened_path c context added t i j ks path ≡ Ok m) × (m.secret ≡ chain secret (filtered_from (way 0 t i) j))
@@ -200,7 +200,7 @@ pub record FitsOver (c : Crypto) (j : ℕ) (secret : List ℕ) (ss : List Step) 
   pub keys : map (λ (p : Parent). p.encryption_key) (parents_over ss j) ≡ chain_keys c secret (length (parents_over ss j))
   pub below : AllList j (way step.first step.other j)
 
--- a joiner takes a path secret just where it fits the signer's way, and the commit secret is then the chain's next
+-- a joiner takes a path secret exactly when it fits the signer's way, and the commit secret is then the chain's next
 abbrev pub TakenFits : Type 0
 TakenFits = (c : Crypto) (t : Term) (i j : ℕ) (sk secret : List ℕ) (m : Climb) → AreTwo 0 t i j → take_answer c t i j sk secret ≡ Ok m →
     FitsOver c j secret (way 0 t i) × (m.secret ≡ chain secret (length (parents_over (way 0 t i) j)))

@@ -139,9 +139,9 @@ pub fn laws_of_paths()
     ensures counted { SealsAreCounted }
 {}
 
-/// In whole trees: any path, whoever made it, is accepted just where its keys are those of the secret that was opened,
-/// and a joiner takes any path secret just where the parents over it have the keys of its chain and don't list the
-/// joiner, and those on its own side list it.
+/// In whole trees: any path, whoever made it, is accepted exactly when its keys are those of the secret that was
+/// opened, and a joiner takes any path secret exactly when the parents over it have the keys of its chain and don't
+/// list the joiner, and those on its own side list it.
 pub fn laws_of_any_path()
     ensures unopened { RefusedUnopened }
     ensures judged { JudgedByKeys }

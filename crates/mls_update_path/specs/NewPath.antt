@@ -22,7 +22,7 @@ made_path p =
     }
 
 -- The call makes the path of each member with this public state, signature key and leaf, for a commit with these
--- extensions, or refuses with the number of the first check that fails, memory aside.
+-- extensions, or refuses with the number of the first check that fails, or with `OutOfMemory`.
 abbrev pub MakesPath : Crypto → PublicState → List ℕ → ℕ → List Extension → Edits → List ℕ →
     Result NewPath PathError → Type 0
 MakesPath c p signing i list e seed result =

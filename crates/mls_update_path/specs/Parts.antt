@@ -117,21 +117,22 @@ abbrev pub MakesLeaf : {E : Type 0} → Crypto → List ℕ → PublicState → 
 MakesLeaf c signing p i old hash key result =
     IfOk result (λ leaf. leaf ≡ leaf_by_key c signing p.context.group_id i old hash key)
 
--- The committer's new leaf passes its checks, or the call refuses with the number of the first that fails, memory
--- aside.
+-- The committer's new leaf passes its checks, or the call refuses with the number of the first that fails, or with
+-- `OutOfMemory`.
 abbrev pub ChecksLeaf : Crypto → List ℕ → PublicState → ℕ → LeafNode → List ℕ → List ℕ →
     Result LeafNode PathError → Type 0
 ChecksLeaf c signing p i old hash key result =
     Answers (λ _. passed) number_of (leaf_checks c signing p.context.group_id i old hash key)
     result
 
--- The call merges a leaf and keys into a tree, or refuses with the number of what fails, memory aside (RFC 9420, 7.5).
+-- The call merges a leaf and keys into a tree, or refuses with the number of what fails, or with `OutOfMemory`
+-- (RFC 9420, 7.5).
 abbrev pub MergesPath : Term → ℕ → LeafNode → List (List ℕ) → Result Merged PathError → Type 0
 MergesPath t i leaf keys result =
     Answers (λ x. term x.tree) number_of (merge_answer t i leaf keys) result
 
 -- The call answers the committer's new leaf and the tree with its path, or refuses with the number of the first check
--- that fails, memory aside.
+-- that fails, or with `OutOfMemory`.
 abbrev pub MergesNewPath : Crypto → PublicState → List ℕ → ℕ → Tree → List ℕ →
     Result Merged PathError → Type 0
 MergesNewPath c p signing i edited seed result =

@@ -29,14 +29,14 @@ abbrev pub info_signature : Crypto → List ℕ → GroupInfo → List ℕ
 info_signature c signing info =
     sign_with_label c signing (codes "GroupInfoTBS") (group_info_tbs info)
 
--- the signed GroupInfo is refused with this number, memory aside
+-- the signed GroupInfo is refused with this number, unless it is `OutOfMemory`
 abbrev pub IsInfoRefused : Crypto → List ℕ → GroupInfo → WelcomeError → Type 0
 IsInfoRefused c signing info e =
     number_of e ≢ 1 →
     limited_text (group_info.spell (signed_info c signing info)) ≡ Err (number_of e)
 
--- The call answers the spelling of a group's signed GroupInfo, or refuses with `TooLong` (6) where it is too large,
--- memory aside.
+-- The call answers the spelling of a group's signed GroupInfo, or refuses with `TooLong` (6) where it is too large, or
+-- with `OutOfMemory`.
 abbrev pub SignsInfo : Crypto → List ℕ → PublicState → List ℕ → ℕ → Result (Vec ℕ) WelcomeError →
     Type 0
 SignsInfo c signing p tag signer result =
@@ -67,8 +67,8 @@ entry_of c encrypted_info sealer joiner n =
     (secrets_with sealer.joiner_secret.now (option_copied joiner.path_secret))
     (seal_seed sealer.seed.now n)
 
--- The call answers the entries of the joiners, whose seals are numbered from `first` on, or refuses with the number of the
--- first that fails, memory aside.
+-- The call answers the entries of the joiners, whose seals are numbered from `first` on, or refuses with the number of
+-- the first that fails, or with `OutOfMemory`.
 abbrev pub SealsEntries : Crypto → List ℕ → Sealer → List Joiner → ℕ →
     Result (Vec EncryptedGroupSecrets) WelcomeError → Type 0
 SealsEntries c encrypted_info sealer joiners first result =
@@ -85,15 +85,16 @@ RefusesLong c joiners e =
     message_with c encrypted_info secrets rnd n (map package_and_leaf_of joiners)
     ≡ Err (number_of e)
 
--- The call answers the message of a Welcome with this encrypted GroupInfo, or refuses with the number of what fails, memory
--- aside.
+-- The call answers the message of a Welcome with this encrypted GroupInfo, or refuses with the number of what fails, or
+-- with `OutOfMemory`.
 abbrev pub SealsMessage : Crypto → List ℕ → Sealer → List Joiner → ℕ → Result (Vec ℕ) WelcomeError →
     Type 0
 SealsMessage c encrypted_info sealer joiners first result =
     (secrets : ℕ → List ℕ) → AreSecretsOf sealer.joiner_secret.now secrets joiners →
     GivesBytes (message_with c encrypted_info secrets (seal_seed sealer.seed.now) first (map package_and_leaf_of joiners)) result
 
--- The call answers the message of a Welcome with this GroupInfo, or refuses with the number of what fails, memory aside.
+-- The call answers the message of a Welcome with this GroupInfo, or refuses with the number of what fails, or with
+-- `OutOfMemory`.
 abbrev pub MakesWelcome : Crypto → GroupInfo → List ℕ → List Joiner → List ℕ → ℕ →
     Result (Vec ℕ) WelcomeError → Type 0
 MakesWelcome c info joiner_secret joiners seed first result =

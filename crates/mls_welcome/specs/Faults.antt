@@ -20,7 +20,7 @@ Gives defined result = Answers (λ x. x) number_of defined result
 abbrev pub GivesBytes : Result (List ℕ) ℕ → Result (Vec ℕ) WelcomeError → Type 0
 GivesBytes defined result = Answers (λ v. v.items) number_of defined result
 
--- These checks pass, or the call refuses with the number of the first that fails, whatever memory there is.
+-- These checks pass, or the call refuses with the number of the first that fails, also when an allocation fails.
 abbrev pub PassesOutright : {A : Type 0} → Result Passed ℕ → Result A WelcomeError → Type 0
 PassesOutright checks result = AnswersOutright (λ _. passed) number_of checks result
 

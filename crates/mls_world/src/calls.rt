@@ -36,7 +36,7 @@ impl<S: Suite> World<S> {
         seed: &Seed,
     ) -> Result<usize, WorldError>
         ensures does { CreatesGroup S.crypto self.old self.new candidate group.now seed.now result }
-        // `NoSuchCandidate` (92) and `CandidateSpent` (91) come whatever memory there is.
+        // `NoSuchCandidate` (92) and `CandidateSpent` (91) come also when an allocation fails.
         ensures outright { RefusesEarly (model.entrant_at self.old candidate) result }
         ensures headline { Headline S.crypto self.new }
     {
@@ -48,8 +48,8 @@ impl<S: Suite> World<S> {
     /// `NoSuchMessage` (94), decoding, `WrongMessageKind` (95), then the member's checks (RFC 9420, 12.1.1).
     pub fn propose_add(&mut self, member: usize, key_package: &Source) -> Result<usize, WorldError>
         ensures does { ProposesAdd S.crypto self.old self.new member key_package.now result }
-        // `NoSuchMember` (90), `NoSuchMessage` (94), decoding's and `WrongMessageKind` (95) come whatever memory
-        // there is.
+        // `NoSuchMember` (90), `NoSuchMessage` (94), decoding's and `WrongMessageKind` (95) come also when an
+        // allocation fails.
         ensures outright { RefusesEarly (early_add_checks self.old member key_package.now) result }
         ensures headline { Headline S.crypto self.new }
     {
@@ -61,7 +61,7 @@ impl<S: Suite> World<S> {
     /// the member's checks (RFC 9420, 12.1.2).
     pub fn propose_update(&mut self, member: usize, seed: &Seed) -> Result<usize, WorldError>
         ensures does { ProposesUpdate S.crypto self.old self.new member seed.now result }
-        // `NoSuchMember` (90) comes whatever memory there is.
+        // `NoSuchMember` (90) comes also when an allocation fails.
         ensures outright { RefusesEarly (model.seat_at self.old member) result }
         ensures headline { Headline S.crypto self.new }
     {
@@ -72,7 +72,7 @@ impl<S: Suite> World<S> {
     /// member's checks (RFC 9420, 12.1.3).
     pub fn propose_remove(&mut self, member: usize, leaf: u32) -> Result<usize, WorldError>
         ensures does { ProposesRemove S.crypto self.old self.new member leaf result }
-        // `NoSuchMember` (90) comes whatever memory there is.
+        // `NoSuchMember` (90) comes also when an allocation fails.
         ensures outright { RefusesEarly (model.seat_at self.old member) result }
         ensures headline { Headline S.crypto self.new }
     {
@@ -87,7 +87,7 @@ impl<S: Suite> World<S> {
         list: Vec<Extension>,
     ) -> Result<usize, WorldError>
         ensures does { ProposesExtensions S.crypto self.old self.new member list.items result }
-        // `NoSuchMember` (90) and `ExtensionNotAllowed` (14) come whatever memory there is.
+        // `NoSuchMember` (90) and `ExtensionNotAllowed` (14) come also when an allocation fails.
         ensures outright { RefusesExtensionsEarly self.old member list.items result }
         ensures headline { Headline S.crypto self.new }
     {
@@ -107,7 +107,7 @@ impl<S: Suite> World<S> {
     ) -> Result<NewCommit, WorldError>
         ensures does { Commits S.crypto self.old self.new member items.now path seed.now result }
         // `NoSuchMember` (90), and of the first item `NoSuchMessage` (94), decoding's and `WrongMessageKind` (95), come
-        // whatever memory there is.
+        // also when an allocation fails.
         ensures outright { RefusesEarly (early_commit_checks self.old member items.now) result }
         ensures headline { Headline S.crypto self.new }
     {
@@ -131,7 +131,7 @@ impl<S: Suite> World<S> {
     /// and 12.4.2).
     pub fn deliver(&mut self, member: usize, source: &Source) -> Result<Effect, WorldError>
         ensures does { DeliversTo S.crypto self.old self.new member source.now result }
-        // `NoSuchMember` (90) and `NoSuchMessage` (94) come whatever memory there is.
+        // `NoSuchMember` (90) and `NoSuchMessage` (94) come also when an allocation fails.
         ensures outright { RefusesEarly (early_delivery_checks self.old member source.now) result }
         ensures headline { Headline S.crypto self.new }
     {
@@ -145,7 +145,7 @@ impl<S: Suite> World<S> {
     /// GroupInfo.
     pub fn join(&mut self, candidate: usize, source: &Source) -> Result<NewMember, WorldError>
         ensures does { JoinsBy S.crypto self.old self.new candidate source.now result }
-        // `NoSuchCandidate` (92), `CandidateSpent` (91) and `NoSuchMessage` (94) come whatever memory there is.
+        // `NoSuchCandidate` (92), `CandidateSpent` (91) and `NoSuchMessage` (94) come also when an allocation fails.
         ensures outright { RefusesEarly (early_join_checks self.old candidate source.now) result }
         ensures headline { Headline S.crypto self.new }
     {

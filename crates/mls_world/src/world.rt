@@ -50,11 +50,11 @@ impl<S: Suite> World<S> {
         }
     }
 
-    /// Does what one event says: a refusal is the reply, but for want of memory, at which the world is as before. Of
-    /// the world that it leaves the headline holds.
+    /// Does what one event says. A refusal is the reply; `OutOfMemory` is an error, and leaves the world as before. The
+    /// headline holds of the world that it leaves.
     pub fn step(&mut self, event: &Event) -> Result<Reply, OutOfMemory>
         ensures does { DoesStep S.crypto event.now self.old self.new result }
-        // What is decided before anything grows is the reply whatever memory there is.
+        // What is decided before anything grows is the reply also when an allocation fails.
         ensures refused { RepliesEarly event.now self.old self.new result }
         ensures headline { Headline S.crypto self.new }
     {

@@ -1,5 +1,5 @@
 -- The checks of calls on a world that come before anything grows: the number of the first that fails is the call's,
--- whatever memory there is.
+-- also when an allocation fails.
 use Rattle.std.specs.Prelude.{ℕ, List, [], ◌∷◌, Result, Ok}
 use Rattle.mls_wire.specs.Checks.{Passed, passed, require}
 use Rattle.mls_wire.specs.Reading.{◌>>=◌}
@@ -14,7 +14,7 @@ use Rattle.mls_model.specs.World.{World, seat_at, entrant_at, bytes_of, package_
 use Rattle.mls_world_plain.specs.declared.error.WorldError.{WorldError}
 use Rattle.mls_world_plain.specs.Faults.{number_of}
 
--- Where these checks fail, the call is refused with the number of the first, whatever memory there is.
+-- Where these checks fail, the call is refused with the number of the first, also when an allocation fails.
 abbrev pub RefusesEarly : {A B : Type 0} → Result A ℕ → Result B WorldError → Type 0
 RefusesEarly checks result = RefusesOutright number_of checks result
 
@@ -31,7 +31,8 @@ early_add_checks w k source = seat_at w k >>= λ s. check_of (package_of w sourc
 unfoldable pub early_extensions_checks : World → ℕ → List Extension → Result Passed ℕ
 early_extensions_checks w k list = seat_at w k >>= λ s. require 14 (are_allowed list)
 
--- Where these checks of extensions fail, the call is refused with the number of the first, whatever memory there is.
+-- Where these checks of extensions fail, the call is refused with the number of the first, also when an allocation
+-- fails.
 abbrev pub RefusesExtensionsEarly : {B : Type 0} → World → ℕ → List Extension → Result B WorldError → Type 0
 RefusesExtensionsEarly w k list result = RefusesEarly (early_extensions_checks w k list) result
 

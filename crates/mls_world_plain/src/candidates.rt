@@ -98,7 +98,7 @@ impl<S: Suite> PlainWorld<S> {
         seed: &Seed,
     ) -> Result<usize, WorldError>
         ensures does { CreatesGroup S.crypto self.old self.new candidate group.now seed.now result }
-        // `NoSuchCandidate` (92) and `CandidateSpent` (91) come whatever memory there is.
+        // `NoSuchCandidate` (92) and `CandidateSpent` (91) come also when an allocation fails.
         ensures outright { RefusesEarly (model.entrant_at self.old candidate) result }
     {
         let alloc = self.alloc;

@@ -163,7 +163,7 @@ impl<S: Suite> PlainWorld<S> {
     ) -> Result<NewCommit, WorldError>
         ensures does { Commits S.crypto self.old self.new member items.now path seed.now result }
         // `NoSuchMember` (90), and of the first item `NoSuchMessage` (94), decoding's and `WrongMessageKind` (95), come
-        // whatever memory there is.
+        // also when an allocation fails.
         ensures outright { RefusesEarly (early_commit_checks self.old member items.now) result }
     {
         self.require_member(member)?;

@@ -124,7 +124,7 @@ impl<S: Suite> PlainWorld<S> {
     #[tactic(auto, using(crate::proofs::Changing::no_member, crate::proofs::Stores::seat_missing, crate::proofs::Calling::stands_at, crate::proofs::EarlyChecks::delivery_nobody))]
     pub fn deliver(&mut self, member: usize, source: &Source) -> Result<Effect, WorldError>
         ensures does { DeliversTo S.crypto self.old self.new member source.now result }
-        // `NoSuchMember` (90) and `NoSuchMessage` (94) come whatever memory there is.
+        // `NoSuchMember` (90) and `NoSuchMessage` (94) come also when an allocation fails.
         ensures outright { RefusesEarly (early_delivery_checks self.old member source.now) result }
     {
         let Some(seat) = self.seats.get_mut(member) else {

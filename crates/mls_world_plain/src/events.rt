@@ -18,7 +18,7 @@ impl<S: Suite> PlainWorld<S> {
     #[tactic(auto, unfolding(mls_model::specs::Run::answer))]
     pub fn answer(&mut self, event: &Event) -> Result<Reply, WorldError>
         ensures does { AnswersEvent S.crypto self.old self.new event.now result }
-        // What is decided before anything grows comes whatever memory there is.
+        // What is decided before anything grows comes also when an allocation fails.
         ensures outright { RefusesEarly (early_checks self.old event.now) result }
     {
         match event {
@@ -77,11 +77,11 @@ impl<S: Suite> PlainWorld<S> {
         }
     }
 
-    /// Does what one event says: a refusal is the reply, but for want of memory, at which the world is as before.
+    /// Does what one event says. A refusal is the reply; `OutOfMemory` is an error, and leaves the world as before.
     #[tactic(auto, unfolding(mls_model::specs::Run::step))]
     pub fn step(&mut self, event: &Event) -> Result<Reply, AllocError>
         ensures does { DoesStep S.crypto event.now self.old self.new result }
-        // What is decided before anything grows is the reply whatever memory there is.
+        // What is decided before anything grows is the reply also when an allocation fails.
         ensures refused { RepliesEarly event.now self.old self.new result }
     {
         match self.answer(event) {

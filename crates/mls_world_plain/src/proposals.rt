@@ -19,8 +19,8 @@ impl<S: Suite> PlainWorld<S> {
     #[tactic(auto, using(crate::proofs::Stores::seat_found, crate::proofs::Stores::seat_missing, crate::proofs::Stores::seat_set, crate::proofs::Stores::unchanged, crate::proofs::Calling::member_changed, crate::proofs::Readings::wider), unfolding(mls_model::specs::WorldCalls::propose_add_answer))]
     pub fn propose_add(&mut self, member: usize, key_package: &Source) -> Result<usize, WorldError>
         ensures does { ProposesAdd S.crypto self.old self.new member key_package.now result }
-        // `NoSuchMember` (90), `NoSuchMessage` (94), decoding's and `WrongMessageKind` (95) come whatever memory
-        // there is.
+        // `NoSuchMember` (90), `NoSuchMessage` (94), decoding's and `WrongMessageKind` (95) come also when an
+        // allocation fails.
         ensures outright { RefusesEarly (early_add_checks self.old member key_package.now) result }
     {
         self.require_member(member)?;
@@ -46,7 +46,7 @@ impl<S: Suite> PlainWorld<S> {
     #[tactic(auto, using(crate::proofs::Stores::seat_found, crate::proofs::Stores::seat_missing, crate::proofs::Stores::seat_set, crate::proofs::Stores::unchanged, crate::proofs::Calling::member_changed, crate::proofs::Readings::wider), unfolding(mls_model::specs::WorldCalls::propose_update_answer))]
     pub fn propose_update(&mut self, member: usize, seed: &Seed) -> Result<usize, WorldError>
         ensures does { ProposesUpdate S.crypto self.old self.new member seed.now result }
-        // `NoSuchMember` (90) comes whatever memory there is.
+        // `NoSuchMember` (90) comes also when an allocation fails.
         ensures outright { RefusesEarly (model.seat_at self.old member) result }
     {
         self.require_member(member)?;
@@ -65,7 +65,7 @@ impl<S: Suite> PlainWorld<S> {
     #[tactic(auto, using(crate::proofs::Stores::seat_found, crate::proofs::Stores::seat_missing, crate::proofs::Stores::seat_set, crate::proofs::Stores::unchanged, crate::proofs::Calling::member_changed, crate::proofs::Readings::wider), unfolding(mls_model::specs::WorldCalls::propose_remove_answer))]
     pub fn propose_remove(&mut self, member: usize, leaf: u32) -> Result<usize, WorldError>
         ensures does { ProposesRemove S.crypto self.old self.new member leaf result }
-        // `NoSuchMember` (90) comes whatever memory there is.
+        // `NoSuchMember` (90) comes also when an allocation fails.
         ensures outright { RefusesEarly (model.seat_at self.old member) result }
     {
         self.require_member(member)?;
@@ -87,7 +87,7 @@ impl<S: Suite> PlainWorld<S> {
         list: Vec<Extension>,
     ) -> Result<usize, WorldError>
         ensures does { ProposesExtensions S.crypto self.old self.new member list.items result }
-        // `NoSuchMember` (90) and `ExtensionNotAllowed` (14) come whatever memory there is.
+        // `NoSuchMember` (90) and `ExtensionNotAllowed` (14) come also when an allocation fails.
         ensures outright { RefusesExtensionsEarly self.old member list.items result }
     {
         self.require_member(member)?;

@@ -163,7 +163,7 @@ impl<S: Suite> PlainWorld<S> {
     /// Makes the list of a commit, or answers the first check that fails of the first item that has one.
     pub(crate) fn items_of(&self, items: &[WorldItem]) -> Result<Vec<Item>, WorldError>
         ensures answer { AnswersItems self.now items.now result }
-        // The checks of the first item come whatever memory there is.
+        // The checks of the first item come also when an allocation fails.
         ensures outright { RefusesEarly (first_checks self.now items.now) result }
         ensures short { IfOk result (λ v. AreShortItems v.items) }
     {

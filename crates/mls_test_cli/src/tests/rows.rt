@@ -42,7 +42,7 @@ member 0: leaf 0, epoch 1, tree 61ea664910583243a5288f14c2904b34dda7af35a8ec6b75
 member 1: leaf 1, epoch 1, tree 61ea664910583243a5288f14c2904b34dda7af35a8ec6b75a91aa9a08f92dba2, authenticator 5308bd0fefd21cb8843e9a0f2204981c0d864162c4c9d2f48279a42f5b155ec5
 "#;
 
-/// The same, where another reply is expected to the fifth event.
+/// `JOIN`, where another reply is expected to the fifth event.
 pub const EXPECTED: &str = r#"{"version":1,"suite":"f001","events":[
   {"op":"candidate","identity":"61","seed":"0101010101010101010101010101010101010101010101010101010101010101"},
   {"op":"create","candidate":0,"group":"67","seed":"0202020202020202020202020202020202020202020202020202020202020202"},

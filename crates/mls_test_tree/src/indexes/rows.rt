@@ -139,13 +139,13 @@ pub(crate) enum Step {
     Finds(&'static [u8]),
     /// Whether no two cells have one key.
     Distinct,
-    /// The same of the copy.
+    /// Whether no two cells of the copy have one key.
     CopyDistinct,
     /// Whether no two of a key, more keys and those of the cells are one.
     Accepts(u8, &'static [u8]),
-    /// The same beside the cells at the first two places.
+    /// Whether no two of a key, more keys and those of the cells are one, the cells at the first two places left out.
     AcceptsBesideFirst(u8, &'static [u8]),
-    /// The same beside the cell at a place.
+    /// Whether no two of a key, more keys and those of the cells are one, the cell at a place left out.
     AcceptsBesideAt(u32, u8, &'static [u8]),
 }
 
