@@ -29,7 +29,7 @@ unfoldable pub are_new : List ℕ → List Extension → Bool
 are_new types [] = true
 are_new types (v ∷ vs) = is_new types v.kind && are_new (v.kind ∷ types) vs
 
--- Whether a group may carry these extensions: each type is for private use, and stands once.
+-- Whether a group may carry these extensions (RFC 9420, 12.1.7): each type is for private use, and stands once.
 abbrev pub are_allowed : List Extension → Bool
 are_allowed vs = are_new [] vs
 
@@ -39,7 +39,7 @@ AreAllowed vs value = (value ≡ vs) × (are_allowed vs ≡ true)
 
 -- ---- (RFC 9420, sections 7.2 and 13.4) uint16 type, data<V>
 
--- an extension whose type passes a test, else `ExtensionNotAllowed` (14), before its data are read
+-- Extension (RFC 9420, 7.2): its type passes a test, else `ExtensionNotAllowed` (14), before its data are read
 abbrev pub extension_where : (ℕ → Bool) → Format Extension
 extension_where allowed = image (with_test uint16 allowed 14 ⨾ byte_string)
     (λ x. record { kind = x.0; content = x.1 })
@@ -63,7 +63,7 @@ allowed_extensions bytes = run_at each_once (length bytes) [] bytes
 
 -- ---- (RFC 9420, sections 8.1 and 12.1.7) Extension<V>, of types for private use, each at most once
 
--- a list in which an extension of another type, or of a type that stands before it, is `ExtensionNotAllowed` (14)
+-- Extension<V> of a group: of another type, or of a type that stands before it, an entry is `ExtensionNotAllowed` (14)
 unfoldable pub group_extensions : Format (List Extension)
 group_extensions = vector_from each_once []
 

@@ -14,11 +14,11 @@ use Rattle.mls_leaf.specs.declared.key_package.KeyPackage.{KeyPackage}
 
 -- ---- tree hashes (RFC 9420, section 7.8)
 
--- TreeHashInput of a leaf: 01, uint32 leaf_index, optional<LeafNode>
+-- TreeHashInput of a leaf (RFC 9420, 7.8): 01, uint32 leaf_index, optional<LeafNode>
 unfoldable pub tree_hash_input_of_leaf : ℕ → Option LeafNode → List ℕ
 tree_hash_input_of_leaf index leaf = uint w8 1 ++ uint w32 index ++ (optional leaf_node).spell leaf
 
--- TreeHashInput of a parent: 02, optional<ParentNode>, left_hash<V>, right_hash<V>
+-- TreeHashInput of a parent (RFC 9420, 7.8): 02, optional<ParentNode>, left_hash<V>, right_hash<V>
 unfoldable pub tree_hash_input_of_parent : Option Parent → List ℕ → List ℕ → List ℕ
 tree_hash_input_of_parent parent left right = uint w8 2 ++ (optional parent_node).spell parent ++ opaque left ++ opaque right
 
@@ -28,7 +28,7 @@ TreeHashInputOfParentFits parent left right = (optional parent_node).Fits parent
 
 -- ---- parent hashes (RFC 9420, section 7.9)
 
--- ParentHashInput: encryption_key<V>, parent_hash<V>, original_sibling_tree_hash<V>
+-- ParentHashInput (RFC 9420, 7.9): encryption_key<V>, parent_hash<V>, original_sibling_tree_hash<V>
 unfoldable pub parent_hash_input : List ℕ → List ℕ → List ℕ → List ℕ
 parent_hash_input encryption_key parent_hash sibling = opaque encryption_key ++ opaque parent_hash ++ opaque sibling
 
@@ -48,7 +48,7 @@ leaf_content v =
 abbrev pub LeafContentFits : LeafNode → Type 0
 LeafContentFits v = byte_string.Fits v.encryption_key × (byte_string.Fits v.signature_key × (credential.Fits v.credential × (capabilities.Fits v.capabilities × leaf_source.Fits v.source)))
 
--- where the leaf stands, for the sources update and commit: group_id<V>, uint32 leaf_index
+-- where the leaf stands, for the sources update and commit (RFC 9420, 7.2): group_id<V>, uint32 leaf_index
 abbrev pub leaf_place : LeafSource → List ℕ → ℕ → List ℕ
 leaf_place (by_key_package before after) group index = []
 leaf_place by_update group index = opaque group ++ uint w32 index
@@ -60,7 +60,7 @@ LeafPlaceFits (by_key_package before after) group = Unit {0}
 LeafPlaceFits by_update group = byte_string.Fits group
 LeafPlaceFits (by_commit hash) group = byte_string.Fits group
 
--- LeafNodeTBS: the leaf without its signature, and for the sources update and commit where it stands
+-- LeafNodeTBS (RFC 9420, 7.2): the leaf without its signature, and for the sources update and commit where it stands
 unfoldable pub leaf_node_tbs : LeafNode → List ℕ → ℕ → List ℕ
 leaf_node_tbs v group index = leaf_content v ++ leaf_place v.source group index
 
@@ -70,7 +70,7 @@ LeafNodeTbsFits v group = LeafContentFits v × LeafPlaceFits v.source group
 
 -- ---- signed key packages (RFC 9420, section 10)
 
--- KeyPackageTBS: the key package without its signature
+-- KeyPackageTBS (RFC 9420, 10): the key package without its signature
 unfoldable pub key_package_tbs : KeyPackage → List ℕ
 key_package_tbs v = uint w16 1 ++ uint w16 v.cipher_suite ++ opaque v.init_key ++ leaf_node.spell v.leaf_node ++ opaque []
 

@@ -14,7 +14,7 @@ use Rattle.mls_leaf.specs.declared.node.Node.TheVariants.{Leaf as in_leaf, Paren
 
 -- ---- (RFC 9420, section 12.4.3.3) uint8 kind, then 1: LeafNode; 2: ParentNode
 
--- what stands behind each kind
+-- what stands behind each kind: a LeafNode or a ParentNode
 abbrev pub Nodes : Type 0
 Nodes = LeafNode ⊎ (Parent ⊎ ⊥)
 

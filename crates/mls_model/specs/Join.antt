@@ -58,7 +58,8 @@ unfoldable pub place_of : LeafNode → Term → Option (ℕ × LeafNode)
 place_of leaf t = find (λ (x : ℕ × LeafNode). is_same_leaf x.1 leaf) (members 0 t)
 
 -- the joiner's keys (RFC 9420, 12.4.3.1): with a path secret those that the secret gives, else its leaf's alone;
--- `PathKeyMismatch` (34) a key differs, and `KeyMissing` (35) one that is due is missing
+-- `PathKeyMismatch` (34) a key differs, and `KeyMissing` (35) one that is due is missing, which the standard doesn't
+-- ask
 unfoldable pub joined_keys : Crypto → Term → ℕ → PrivateKeys → Option (List ℕ) → Result PrivateKeys ℕ
 joined_keys c t signer alone None = require 35 (has_due t alone) >> Ok alone
 joined_keys c t signer alone (Some secret) =

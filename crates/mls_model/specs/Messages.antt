@@ -32,11 +32,11 @@ use Rattle.mls_model.specs.Member.{Member}
 unfoldable pub decode_message : List ℕ → Result MlsMessage ℕ
 decode_message bytes = whole mls_message input_limit bytes
 
--- whether each entry of a list is a byte, as all are that code has
+-- whether each entry of a list is a byte, which is so of each list that code has
 unfoldable pub are_bytes : List ℕ → Bool
 are_bytes bytes = list_all (λ (b : ℕ). nat_lt b 256) bytes
 
--- the check of bytes that were made: `TooLong` (6) they are more than a message may have, or not bytes
+-- the check of a text that was made: `TooLong` (6) it has more bytes than a message may have, or entries that are none
 unfoldable pub require_within_limit : List ℕ → Result Passed ℕ
 require_within_limit bytes = require 6 (nat_le (length bytes) input_limit && are_bytes bytes)
 

@@ -27,12 +27,12 @@ abbrev pub welcome_in : MlsMessage → Option Welcome
 welcome_in (message.Welcome w) = Some w
 welcome_in other = None
 
--- a value that was read, and this number where there was any fault
+-- a value that was read; any fault of reading gives this number instead
 abbrev pub or_fault : {A : Type 0} → ℕ → Result A ℕ → Result A ℕ
 or_fault n (Ok x) = Ok x
 or_fault n (Err e) = Err n
 
--- whether a secret that may be left out has 32 bytes
+-- whether a secret that may be left out has 32 bytes, where it is there
 abbrev pub is_none_or_32 : Option (List ℕ) → Bool
 is_none_or_32 None = true
 is_none_or_32 (Some secret) = length secret == 32

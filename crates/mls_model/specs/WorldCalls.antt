@@ -71,14 +71,16 @@ propose_add_answer c w k source = do
   x ← propose_add c s.member offered
   Ok (proposal_answer w k s x)
 
--- a member proposes to update its own leaf (RFC 9420, 12.1.2): `NoSuchMember` (90) no such member
+-- a member proposes to update its own leaf (RFC 9420, 12.1.2): `NoSuchMember` (90) no such member, then the refusals of
+-- `propose_update`
 unfoldable pub propose_update_answer : Crypto → World → ℕ → List ℕ → Result (Reply × World) ℕ
 propose_update_answer c w k seed = do
   s ← seat_at w k
   x ← propose_update c s.member seed
   Ok (proposal_answer w k s x)
 
--- a member proposes to remove a leaf (RFC 9420, 12.1.3): `NoSuchMember` (90) no such member
+-- a member proposes to remove a leaf (RFC 9420, 12.1.3): `NoSuchMember` (90) no such member, then the refusals of
+-- `propose_remove`
 unfoldable pub propose_remove_answer : Crypto → World → ℕ → ℕ → Result (Reply × World) ℕ
 propose_remove_answer c w k leaf = do
   s ← seat_at w k
@@ -86,7 +88,7 @@ propose_remove_answer c w k leaf = do
   Ok (proposal_answer w k s x)
 
 -- a member proposes the extensions that its group is to carry (RFC 9420, 12.1.7): `NoSuchMember` (90) no such member;
--- `ExtensionNotAllowed` (14) no group may carry them
+-- `ExtensionNotAllowed` (14) no group may carry them, then the refusals of `propose_extensions`
 unfoldable pub propose_extensions_answer : Crypto → World → ℕ → List Extension → Result (Reply × World) ℕ
 propose_extensions_answer c w k list = do
   s ← seat_at w k
@@ -141,7 +143,7 @@ journal_after s bytes (Advanced epoch) = with_entry s.journal (entry_of s.member
 journal_after s bytes other = s.journal
 
 -- a member does with the bytes of a source what its verdict says (RFC 9420, 6): `NoSuchMember` (90) no such member,
--- `NoSuchMessage` (94) no such message
+-- `NoSuchMessage` (94) no such message, then the refusals of `verdict`
 unfoldable pub deliver_answer : Crypto → World → ℕ → Source → Result (Reply × World) ℕ
 deliver_answer c w k source = do
   s ← seat_at w k
@@ -153,7 +155,8 @@ deliver_answer c w k source = do
   )
 
 -- a candidate joins by the bytes of a source as one more member, and is spent (RFC 9420, 12.4.3.1):
--- `NoSuchCandidate` (92) no such candidate, `CandidateSpent` (91) a spent one, `NoSuchMessage` (94) no such message
+-- `NoSuchCandidate` (92) no such candidate, `CandidateSpent` (91) a spent one, `NoSuchMessage` (94) no such message,
+-- then the refusals of `join_verdict`
 unfoldable pub join_answer : Crypto → World → ℕ → Source → Result (Reply × World) ℕ
 join_answer c w n source = do
   e ← entrant_at w n

@@ -34,7 +34,7 @@ climb_take c (s ∷ ss) j ks secret =
     else climb_take c ss j (rest ks) secret)
     >>= λ m. climb_past_present c j s.parent m
 
--- whether the key at a parent isn't missing: the parent is blank or lists the joiner, or there is a key
+-- whether the key of a parent is there if it is due: the parent is blank or lists the joiner, or there is a key
 abbrev pub is_due : ℕ → Option Parent → Option (List ℕ) → Bool
 is_due j None o = true
 is_due j (Some p) o = has p.unmerged_leaves j || is_some o
@@ -54,7 +54,7 @@ take_keys c t i j sk secret =
     climb_take c (way 0 t i) j (leaf_only (way 0 t j) sk) secret
     >>= λ m. if is_complete j (way 0 t j) m.keys then Ok m else Err 35
 
--- what joiner j takes with any signer: `PathKeyMismatch` (34) where it is outside the tree
+-- what joiner j takes with any signer: `PathKeyMismatch` (34) where the signer's leaf is outside the tree
 unfoldable pub take_answer : Crypto → Term → ℕ → ℕ → List ℕ → List ℕ → Result Climb ℕ
 take_answer c t i j sk secret = if nat_lt i (width t) then take_keys c t i j sk secret else Err 34
 

@@ -7,19 +7,19 @@ use Rattle.mls_types.specs.declared.update_path.UpdatePathNode.{UpdatePathNode}
 
 -- ---- keys, by DeriveSecret (RFC 9420, 8) under labels of our own
 
--- the input key material of the init key of a KeyPackage is made of the call's seed
+-- the input key material of the init key of a KeyPackage, made of the call's seed
 unfoldable pub init_seed : List ℕ → List ℕ
 init_seed seed = derive_secret seed (codes "seed init")
 
--- the input key material of a leaf's encryption key is made of the call's seed
+-- the input key material of a leaf's encryption key, made of the call's seed
 unfoldable pub leaf_seed : List ℕ → List ℕ
 leaf_seed seed = derive_secret seed (codes "seed leaf")
 
--- the private signature key is made of the call's seed
+-- the private signature key, made of the call's seed
 unfoldable pub sign_seed : List ℕ → List ℕ
 sign_seed seed = derive_secret seed (codes "seed sign")
 
--- the first path secret is made of the call's seed
+-- the first path secret, made of the call's seed
 unfoldable pub path_seed : List ℕ → List ℕ
 path_seed seed = derive_secret seed (codes "seed path")
 

@@ -37,7 +37,7 @@ pub sender_back : (x : Senders) → sender_parts (make_sender x) ≡ x
 sender_back (inl leaf) = refl
 sender_back (inr x) = absurd x
 
--- uint8 type, then 1 (member): uint32 leaf index; another type is `BadTag` (7)
+-- Sender (RFC 9420, 6): uint8 type, then 1 (member): uint32 leaf_index; another type is `BadTag` (7)
 unfoldable pub sender : Format Sender
 sender = image (by_uint8 (case 1 uint32 (others 7))) make_sender sender_parts sender_there (λ x _. sender_back x)
 
@@ -75,7 +75,7 @@ content_back (inr (inl x)) = refl
 content_back (inr (inr (inl x))) = refl
 content_back (inr (inr (inr x))) = absurd x
 
--- uint8 content type, then 1: application data<V>; 2: Proposal; 3: Commit; another type is `BadTag` (7)
+-- (RFC 9420, 6) uint8 content_type, then 1: application_data<V>; 2: Proposal; 3: Commit; another type is `BadTag` (7)
 unfoldable pub content : Format contents.Content
 content = image (by_uint8 (case 1 byte_string (case 2 proposal (case 3 commit (others 7)))))
     make_content content_parts content_there (λ x _. content_back x)
@@ -86,7 +86,7 @@ content_nonempty v fits = by_uint8_nonempty (case 1 byte_string (case 2 proposal
 
 -- ---- FramedContent (RFC 9420, 6)
 
--- group_id<V>, uint64 epoch, Sender, authenticated_data<V>, the content behind its type
+-- FramedContent (RFC 9420, 6): group_id<V>, uint64 epoch, Sender, authenticated_data<V>, the content behind its type
 unfoldable pub framed_content : Format FramedContent
 framed_content = image (byte_string ⨾ uint64 ⨾ sender ⨾ byte_string ⨾ content)
     (λ x. record { group_id = x.0; epoch = x.1.0; sender = x.1.1.0; authenticated_data = x.1.1.1.0; content = x.1.1.1.1 })

@@ -45,7 +45,8 @@ wire_format_back (inr (inr (inl x))) = refl
 wire_format_back (inr (inr (inr (inl x)))) = refl
 wire_format_back (inr (inr (inr (inr x)))) = absurd x
 
--- uint16: 1 PublicMessage, 3 Welcome, 4 GroupInfo, 5 KeyPackage; another is `BadTag` (7)
+-- WireFormat (RFC 9420, 6 and 17.2): uint16: 1 PublicMessage, 3 Welcome, 4 GroupInfo, 5 KeyPackage; another is
+-- `BadTag` (7)
 unfoldable pub wire_format : Format formats.WireFormat
 wire_format = image (by_uint16 (case 1 nothing (case 3 nothing (case 4 nothing (case 5 nothing (others 7))))))
     make_wire_format wire_format_parts wire_format_there (λ x _. wire_format_back x)
@@ -56,7 +57,7 @@ wire_format_nonempty v fits = by_uint16_nonempty (case 1 nothing (case 3 nothing
 
 -- ---- PublicMessage (RFC 9420, 6.2)
 
--- FramedContent, FramedContentAuthData, membership_tag<V>
+-- PublicMessage (RFC 9420, 6.2): FramedContent, FramedContentAuthData, membership_tag<V>
 unfoldable pub public_message : Format messages.PublicMessage
 public_message = image (signed_content ⨾ byte_string)
     (λ x. record { content = x.0; membership_tag = x.1 })
@@ -69,7 +70,7 @@ public_message_nonempty v fits = first_nonempty signed_content byte_string signe
 
 -- ---- AuthenticatedContent (RFC 9420, 6)
 
--- uint16 wire_format, FramedContent, FramedContentAuthData
+-- AuthenticatedContent (RFC 9420, 6): uint16 wire_format, FramedContent, FramedContentAuthData
 unfoldable pub authenticated_content : Format AuthenticatedContent
 authenticated_content = image (wire_format ⨾ signed_content)
     (λ x. record { wire_format = x.0; content = x.1 })

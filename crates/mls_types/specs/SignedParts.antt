@@ -27,7 +27,7 @@ framed_content_of v = record {
   content = content_of_body v.body;
 }
 
--- for a commit confirmation_tag<V>, else nothing
+-- for a commit confirmation_tag<V>, else nothing (RFC 9420, 6.1)
 abbrev pub tag_spelling : SignedBody → List ℕ
 tag_spelling (Application text) = []
 tag_spelling (Proposal made) = []

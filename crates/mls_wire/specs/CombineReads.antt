@@ -12,7 +12,7 @@ next_read b x = (b x.0).read x.1 >>= λ y. Ok ((x.0, y.0), y.1)
 abbrev pub seen_read : {A V : Type 0} → (A → V) → A × List ℕ → Result (V × List ℕ) ℕ
 seen_read make x = Ok (make x.0, x.1)
 
--- the spelling of what a variant holds, and no bytes of another variant
+-- the spelling of what a variant holds; of a value of another variant no bytes
 abbrev pub spell_some : {A V : Type 0} → Format A → (V → Option A) → V → List ℕ
 spell_some a part v = option_map_or a.spell (part v) []
 
