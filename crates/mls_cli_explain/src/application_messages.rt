@@ -25,7 +25,7 @@ pub fn name_of_application_message(number: u8) -> &'static str
     }
 }
 
-/// What is told of refusals of application messages (110 to 119).
+/// What is told of refusals of application messages (110 to 119): a row for each number.
 pub fn about_application_messages(number: u8) -> Option<Explanation>
     ensures { option_map explanation_view result ≡ found_in about_application_messages number }
 {

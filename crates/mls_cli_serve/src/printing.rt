@@ -27,7 +27,7 @@ use mls_suite::Glass;
 use mls_suite_0001::Suite0001;
 use std::alloc::{AllocError, Global};
 
-/// Prints what the job asks for of a file's text.
+/// Prints what the job asks for of a file's text: one call for each kind of job.
 pub fn print_text<O: Output, P: Progress>(
     alloc: Global,
     job: &Job<'_>,

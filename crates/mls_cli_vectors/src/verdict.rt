@@ -122,7 +122,7 @@ fn tree_passes(alloc: Global, bytes: &[u8], tree_hash: &[u8]) -> Result<bool, Al
     }
 }
 
-/// Whether a vector passes.
+/// Whether a vector passes: one call for each kind.
 #[tactic(auto, unfolding(crate::specs::VectorsPassing::passes))]
 pub fn passes(alloc: Global, vector: &Vector) -> Result<bool, AllocError>
     ensures { IfOk result (λ b. b ≡ passes (vector_view vector.now)) }

@@ -14,7 +14,7 @@ use mls_suite::Suite;
 use std::alloc::AllocError;
 
 impl<S: Suite> PlainWorld<S> {
-    /// Does what an event says, or answers the first check that fails.
+    /// Does what an event says, by one call for each kind, or answers the first check that fails.
     #[tactic(auto, unfolding(mls_model::specs::Run::answer))]
     pub fn answer(&mut self, event: &Event) -> Result<Reply, WorldError>
         ensures does { AnswersEvent S.crypto self.old self.new event.now result }
