@@ -58,6 +58,7 @@ pub(crate) fn saved_spelling(alloc: Global, saved: &SavedCandidate) -> Result<Ve
 #[tactic(auto, unfolding(crate::specs::Saved::saved_of_suite))]
 fn read_saved<S: Suite>(alloc: Global, bytes: &[u8]) -> Result<SavedCandidate, CandidateLoadError>
     ensures answer { Loads number_of (saved_of_suite S.crypto bytes.now) result }
+    // Faults of decoding come also when an allocation fails.
     ensures outright { RefusesUndecoded bytes.now result }
     ensures below { IfOk result (λ v. IsBelow (2 ^ 27) key_package v.key_package) }
 {
@@ -133,6 +134,7 @@ fn check_own_keys<S: Suite>(alloc: Global, parts: &Parts) -> Result<(), Candidat
 #[tactic(auto, unfolding(crate::specs::Saved::load_candidate))]
 pub(crate) fn load_parts<S: Suite>(alloc: Global, bytes: &[u8]) -> Result<Parts, CandidateLoadError>
     ensures answer { Answers candidate_by number_of (load_candidate S.crypto bytes.now) result }
+    // Faults of decoding come also when an allocation fails.
     ensures outright { RefusesUndecoded bytes.now result }
     ensures below { IfOk result (λ p. IsBelow (2 ^ 27) key_package p.offered) }
 {

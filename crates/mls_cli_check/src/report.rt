@@ -24,6 +24,7 @@ use std::alloc::{AllocError, Global};
 pub(crate) fn refused(lines: Vec<Line>, error: CheckError) -> Result<Page<Line>, AllocError>
     ensures memory { IfOk result (λ page. number_of error ≢ 1) }
     ensures page { MakesPage result (page_behind (entries_of lines) (refused (number_of error))) }
+    // Each refusal but `OutOfMemory` (1) gives a page.
     ensures outright { number_of error ≢ 1 → IsOk result }
 {
     if error.is_memory() {
@@ -136,6 +137,7 @@ fn bytes_page<S: Suite>(
 ) -> Result<Page<Line>, AllocError>
     requires { length group_id.now ≤ input_limit }
     ensures page { MakesPage result (check_text S.crypto bytes.now group_id.now) }
+    // Bytes that spell no nodes are refused also when an allocation fails.
     ensures outright { (n : ℕ) → whole ratchet_tree input_limit bytes.now ≡ Err n → IsOk result }
 {
     match tree_in(alloc, bytes) {

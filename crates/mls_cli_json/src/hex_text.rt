@@ -15,6 +15,7 @@ use std::alloc::{AllocError, Global};
 /// memory.
 pub fn bytes_of_hex(alloc: Global, text: &str) -> Result<Option<Vec<u8>>, AllocError>
     ensures bytes { IfOk result (λ bytes. option_map (λ v. v.items) bytes ≡ bytes_of text.now) }
+    // A text of an odd length is none also when an allocation fails.
     ensures outright { length text.now % 2 ≡ 1 → result ≡ Ok None }
 {
     match hex::decode(alloc, text) {

@@ -73,6 +73,7 @@ fn propose_add_in(alloc: Global, value: &Value) -> Result<Option<Event>, JsonErr
 
 fn propose_update_in(value: &Value) -> Result<Option<Event>, JsonError>
     ensures found { Finds (option_map call_view) result (propose_update_in (view value.now)) }
+    // It takes no memory.
     ensures outright { IfErr result (λ e. e ≡ BadJson) }
 {
     if !has_keys(value, 3) {
@@ -89,6 +90,7 @@ fn propose_update_in(value: &Value) -> Result<Option<Event>, JsonError>
 
 fn propose_remove_in(value: &Value) -> Result<Option<Event>, JsonError>
     ensures found { Finds (option_map call_view) result (propose_remove_in (view value.now)) }
+    // It takes no memory.
     ensures outright { IfErr result (λ e. e ≡ BadJson) }
 {
     if !has_keys(value, 3) {
@@ -146,6 +148,7 @@ fn commit_in(alloc: Global, value: &Value) -> Result<Option<Event>, JsonError>
 
 fn drop_pending_in(value: &Value) -> Result<Option<Event>, JsonError>
     ensures found { Finds (option_map call_view) result (drop_pending_in (view value.now)) }
+    // It takes no memory.
     ensures outright { IfErr result (λ e. e ≡ BadJson) }
 {
     if !has_keys(value, 2) {

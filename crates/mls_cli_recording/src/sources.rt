@@ -53,6 +53,7 @@ pub fn source_at(alloc: Global, value: &Value, key: &str) -> Result<Option<Sourc
 
 fn removal_in(value: &Value) -> Result<Option<WorldItem>, JsonError>
     ensures found { Finds (option_map item_view) result (removal_in (view value.now)) }
+    // It takes no memory.
     ensures outright { IfErr result (λ e. e ≡ BadJson) }
 {
     match u32_at(value, "remove") {

@@ -56,6 +56,7 @@ fn welcome_view<'a>(bytes: &'a [u8]) -> Result<WelcomeView<'a>, JoinError>
 /// The Welcome of the suite that the bytes are: decoding, `NotWelcome` (70), `WrongSuite` (71).
 fn read_welcome_of_suite<S: Suite>(alloc: Global, bytes: &[u8]) -> Result<Welcome, JoinError>
     ensures answer { Gives (read_welcome_of_suite S.crypto.number bytes.now) result }
+    // Decoding, `NotWelcome` (70) and `WrongSuite` (71) come also when an allocation fails.
     ensures outright { RefusesOutright number_of (welcome_outer_checks S.crypto.number bytes.now)
         result }
     ensures short { IfOk result (λ w. length w.encrypted_group_info < 2 ^ 30) }
@@ -174,6 +175,7 @@ pub(crate) fn opened_welcome<S: Suite>(
 ) -> Result<Opened, JoinError>
     requires offered { IsBelow (2 ^ 27) key_package candidate.now.offered }
     ensures answer { Opens S.crypto (opened_welcome S.crypto candidate.now bytes.now) result }
+    // Decoding, `NotWelcome` (70) and `WrongSuite` (71) come also when an allocation fails.
     ensures outright { RefusesOutright number_of (welcome_outer_checks S.crypto.number bytes.now)
         result }
     ensures below { IfOk result (λ o. IsBelow (2 ^ 27) group_info o.info) }

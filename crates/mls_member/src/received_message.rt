@@ -34,6 +34,7 @@ impl<S: Suite> Member<S> {
     ) -> Result<Effect, Refusal>
         requires { IsShortView view.now }
         ensures verdict { TakesMessage S.crypto view.now bytes.now self.old self.new result }
+        // `WrongGroup` (42) to `BadMembershipTag` (46) come also when an allocation fails.
         ensures outright { RefusesSender self.old view.now result }
     {
         self.framing_checks(view, bytes)?;

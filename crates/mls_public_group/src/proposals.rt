@@ -54,6 +54,7 @@ impl PublicGroup {
     ) -> Result<(), GroupError>
         requires { IsShort leaf_node leaf.now }
         ensures answer { Passes (update_checks S.crypto self.now sender leaf.now) result }
+        // `NoSuchLeaf` (22) comes also when an allocation fails.
         ensures outright { RefusesOutright number_of (member_check self.now.tree sender) result }
     {
         let context = &self.context;

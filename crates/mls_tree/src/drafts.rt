@@ -80,6 +80,7 @@ impl PublicTree {
     /// filtered path has parents.
     pub fn draft_path(&mut self, i: u32, keys: Vec<Bytes>) -> Result<PathDraft, TreeError>
         ensures answer { AnswersDraft (term self.old) i keys.items result }
+        // `NoSuchLeaf` (22) and `PathLength` (30) come also when an allocation fails.
         ensures outright { Refuses (path_checks (term self.old) i (length keys.items)) result }
         ensures draft { IfOk result (IsDraftOf (term self.old) i keys.items) }
         ensures same { term self.new ≡ term self.old }

@@ -157,6 +157,7 @@ impl PublicTree {
     ) -> Result<Vec<SharedParent>, TreeError>
         requires { self.now.hashes ≡ hashes_of 0 (term self.now) }
         ensures checks { AnswersChecks (merge_checks (term self.now) i leaf.now keys.items) result }
+        // `NoSuchLeaf` (22) and `PathLength` (30) come also when an allocation fails.
         ensures outright { Refuses (path_checks (term self.now) i (length keys.items)) result }
         ensures parents { IfOk result (ArePathParents (term self.now) i keys.items) }
     {
@@ -206,6 +207,7 @@ impl PublicTree {
     /// (30) where there aren't as many keys as its filtered path has parents.
     pub fn path_parent_hash(&mut self, i: u32, keys: &[Bytes]) -> Result<Vec<u8>, TreeError>
         ensures answer { AnswersList (path_hash_answer (term self.old) i keys.now) result }
+        // `NoSuchLeaf` (22) and `PathLength` (30) come also when an allocation fails.
         ensures outright { Refuses (path_checks (term self.old) i (length keys.now)) result }
         ensures same { term self.new ≡ term self.old }
         ensures warms { Warms self.old self.new }

@@ -91,6 +91,7 @@ impl PublicTree {
     /// above `MAX_LEAVES` leaves. Both are decided before memory is taken.
     pub fn from_nodes(nodes: Vec<Slot>) -> Result<PublicTree, TreeError>
         ensures answer { Answers term number_of (from_nodes max_leaves nodes.items) result }
+        // Both come also when an allocation fails.
         ensures outright { Refuses (from_nodes max_leaves nodes.items) result }
         ensures shape { IfOk result (λ t. has_good_shape (term t) ≡ true) }
         // Its leaves are short where the nodes are, as those of an input are.
@@ -207,6 +208,7 @@ impl PublicTree {
     /// where no member is there.
     pub fn filtered_path(&self, i: u32) -> Result<Vec<u32>, TreeError>
         ensures answer { AnswersList (path_answer (term self.now) i) result }
+        // `NoSuchLeaf` (22) comes also when an allocation fails.
         ensures outright { Refuses (path_answer (term self.now) i) result }
     {
         match self.require_member(i) {
@@ -283,6 +285,7 @@ impl PublicTree {
     /// member is there. After a refusal the tree is as before.
     pub fn update(&mut self, i: u32, leaf: LeafNode) -> Result<(), TreeError>
         ensures answer { AnswersUpdate i leaf self.old self.new result }
+        // `NoSuchLeaf` (22) comes also when an allocation fails.
         ensures outright { Refuses (update_answer (term self.old) i leaf) result }
         // A good tree stays good where the leaf passes the checks, and a sound one sound.
         ensures good { OnOk result (KeepsGoodAt i leaf [] self.old self.new) }

@@ -57,6 +57,7 @@ impl Index {
     ) -> Result<bool, AllocError>
         requires { is_distinct nat_eq places.now ≡ true }
         ensures answer { AcceptsBeside self.now cells.now places.now key.now keys.now result }
+        // It takes no memory where no two cells have one key.
         ensures outright { OnDistinct cells.now self.now (IsOk result) }
     {
         if self.are_distinct() {

@@ -103,6 +103,7 @@ impl<S: Suite> PlainWorld<S> {
         extensions: &[Extension],
     ) -> Result<usize, WorldError>
         ensures does { ProposesExtensions S.crypto self.old self.new member extensions.now result }
+        // `NoSuchMember` (90) and `ExtensionNotAllowed` (14) come also when an allocation fails.
         ensures outright { RefusesExtensionsEarly self.old member extensions.now result }
     {
         self.require_member(member)?;

@@ -43,6 +43,7 @@ pub(crate) fn bytes_of<'a>(
 /// Reads the KeyPackage that bytes are: decoding, `WrongMessageKind` (95).
 fn read_package(alloc: Global, bytes: &[u8]) -> Result<KeyPackage, WorldError>
     ensures answer { AnswersBy (read_package bytes.now) result }
+    // What is refused of the bytes comes also when an allocation fails.
     ensures outright { RefusesEarly (read_package bytes.now) result }
     ensures below { IfOk result (λ k. IsBelow (2 ^ 27) key_package_format k) }
 {
@@ -86,6 +87,7 @@ pub(crate) fn copy_extensions(
     entries: &[Extension],
 ) -> Result<GroupExtensions, WorldError>
     ensures answer { AnswersBy (allowed_list entries.now) result }
+    // `ExtensionNotAllowed` (14) comes also when an allocation fails.
     ensures outright { RefusesEarly (allowed_list entries.now) result }
 {
     if !GroupExtensions::is_allowed(entries) {
@@ -115,6 +117,7 @@ impl<S: Suite> PlainWorld<S> {
     #[tactic(auto, unfolding(mls_model::specs::World::package_of, crate::specs::Sources::read_package))]
     pub(crate) fn package_of(&self, source: &Source) -> Result<KeyPackage, WorldError>
         ensures answer { AnswersBy (model.package_of self.now source.now) result }
+        // What is refused of the source comes also when an allocation fails.
         ensures outright { RefusesEarly (model.package_of self.now source.now) result }
         ensures below { IfOk result (λ k. IsBelow (2 ^ 27) key_package_format k) }
     {
@@ -126,6 +129,7 @@ impl<S: Suite> PlainWorld<S> {
     /// `ExtensionNotAllowed` (14).
     fn item_of(&self, item: &WorldItem) -> Result<Item, WorldError>
         ensures answer { Answers list_item_of number_of (model.item_of self.now item.now) result }
+        // What is refused of the item comes also when an allocation fails.
         ensures outright { RefusesEarly (model.item_of self.now item.now) result }
         ensures short { IfOk result (λ i. IsShortItem i) }
     {
