@@ -6,7 +6,7 @@ use Rattle.mls_types.specs.declared.group_context.GroupContext.{GroupContext}
 use Rattle.mls_tree_model.specs.Term.{Term}
 use Rattle.mls_model.specs.Commit.{Edits, Change}
 use Rattle.mls_commit.specs.Outcome.{Outcome}
-use Rattle.mls_public_group.specs.Codes.{coded_tree}
+use Rattle.mls_tree_array.specs.Codes.{coded_tree}
 use Rattle.mls_public_group.specs.PublicCodes.{coded_context, coded_edits}
 
 abbrev pub coded_change : Coded Change

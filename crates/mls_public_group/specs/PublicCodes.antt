@@ -7,7 +7,8 @@ use Rattle.mls_tree_model.specs.Term.{Term}
 use Rattle.mls_model.specs.PublicState.{PublicState}
 use Rattle.mls_model.specs.Commit.{Edits}
 use Rattle.mls_leaf.specs.declared.extension.Extension.{Extension}
-use Rattle.mls_public_group.specs.Codes.{coded_bytes, coded_extensions, coded_tree}
+use Rattle.mls_tree_array.specs.Codes.{coded_tree}
+use Rattle.mls_public_group.specs.Codes.{coded_bytes, coded_extensions}
 
 abbrev pub coded_context : Coded GroupContext
 coded_context =
