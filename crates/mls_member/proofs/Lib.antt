@@ -1,6 +1,7 @@
 pub mod ContentLaws
 pub mod LengthLaws
 pub mod TwoParts
+pub mod EarlyChecks
 pub mod Known
 pub mod Uses
 pub mod CommitLengths

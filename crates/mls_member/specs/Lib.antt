@@ -4,6 +4,7 @@ pub mod Committing
 pub mod Answers
 pub mod Process
 pub mod Received
+pub mod EarlyChecks
 pub mod FirstEpoch
 pub mod Proposing
 pub mod GroupMembers

@@ -73,7 +73,7 @@ impl<S: Suite> Member<S> {
 
     /// Answers the leaf of a message's sender, where that passes its checks and the message has its membership tag:
     /// `BadMembershipTag` (46) where it hasn't (RFC 9420, 6.2). It takes no memory.
-    fn sender_of(&self, view: &PublicMessageView<'_>) -> Result<&LeafNode, Refusal>
+    pub(crate) fn sender_of(&self, view: &PublicMessageView<'_>) -> Result<&LeafNode, Refusal>
         ensures { LendsSender self.now view.now result }
     {
         let content = &view.content;

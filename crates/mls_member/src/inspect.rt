@@ -4,6 +4,7 @@ ghost use Rattle.std.specs.Prelude.{◌≡◌, true, Err, IfOk};
 ghost use Rattle.mls_model.specs.Messages.{decode_message};
 ghost use Rattle.mls_model.specs.Verdict.{verdict};
 ghost use Rattle.mls_member.specs.Inspecting.{Inspects, ShowsGood, sender_in};
+ghost use Rattle.mls_member.specs.Received.{RefusesOthers};
 ghost use Rattle.mls_member.specs.declared.error.Refusal.TheVariants.{Gone};
 
 use crate::error::Refusal;
@@ -44,13 +45,18 @@ impl<S: Suite> Member<S> {
     pub fn inspect(&self, bytes: &[u8]) -> Result<Inspection<S>, Refusal>
         ensures answer { Inspects (verdict S.crypto self.now bytes.now) result }
         ensures good { ShowsGood S.crypto self.now result }
-        // It takes no memory.
         ensures gone { self.now.gone ≡ true → result ≡ Err Gone }
+        // Of bytes that aren't its pending commit, faults of decoding and `NotPublicMessage` (41) to `BadMembershipTag`
+        // (46) come also when an allocation fails.
+        ensures outright { RefusesOthers self.now bytes.now result }
     {
         if self.is_gone() {
             return Err(Refusal::Gone);
         }
-        let mut member = self.copy()?;
+        let mut member = match self.copy() {
+            Ok(member) => member,
+            Err(error) => return Err(self.early_refusal(bytes, error)),
+        };
         match member.process(bytes) {
             Ok(effect) => Ok(Inspection { effect, member }),
             Err(error) => {

@@ -6,6 +6,7 @@ mod commit_items;
 mod commit_kept;
 mod copy;
 mod create;
+mod early_checks;
 mod error;
 mod framing;
 mod group_members;

@@ -15,7 +15,7 @@ use mls_suite::Suite;
 
 impl<S: Suite> Member<S> {
     /// Tells whether the bytes are the message of its pending commit.
-    fn is_own(&self, bytes: &[u8]) -> bool
+    pub(crate) fn is_own(&self, bytes: &[u8]) -> bool
         ensures { result ≡ is_some (own_pending self.now.pending bytes.now) }
     {
         match &self.pending {
