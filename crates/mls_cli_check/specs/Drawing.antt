@@ -1,6 +1,10 @@
 -- What `mls check --draw` prints, as text and with `--svg`.
-use Rattle.std.specs.Prelude.{ℕ, List, Option, Result, Ok, Err}
+use Rattle.std.specs.Prelude.{◌≡◌, ℕ, List, Option, Result, Ok, Err, IsOk}
 use Rattle.mls_wire.specs.Reading.{◌>>=◌}
+use Rattle.mls_wire.specs.Whole.{whole}
+use Rattle.mls_leaf.specs.Limits.{input_limit}
+use Rattle.mls_types.specs.GroupInfo.{ratchet_tree}
+use Rattle.mls_types.specs.Message.{mls_message}
 use Rattle.mls_tree_model.specs.Term.{Term}
 use Rattle.mls_cli_text.specs.Form.{bytes_of_file}
 use Rattle.mls_cli_text.specs.Page.{Page, refused}
@@ -8,7 +12,9 @@ use Rattle.mls_cli_text.specs.declared.form.Form.{Form}
 use Rattle.mls_cli_draw.specs.Picture.{picture}
 use Rattle.mls_cli_draw.specs.Svg.{svg_picture}
 use Rattle.mls_cli_check.specs.Check.{page_of_bytes, tree_in}
+use Rattle.mls_cli_check.specs.CheckFaults.{RefusesMessage, RefusesNodes}
 use Rattle.mls_cli_check.specs.GroupInfo.{group_info_in, sent_tree}
+use Rattle.mls_cli_check.specs.declared.check_error.CheckError.{CheckError}
 use Rattle.mls_cli_check.specs.declared.drawing.Drawing.{Drawing}
 use Rattle.mls_cli_check.specs.declared.drawing.Drawing.TheVariants.{Text, Svg}
 use Rattle.mls_cli_check.specs.declared.drawing.TreeSource.{TreeSource}
@@ -39,3 +45,17 @@ picture_from source drawing spelled = picture_on drawing (tree_from source spell
 abbrev pub draw_page : TreeSource → Drawing → Form → List ℕ → Page (List ℕ)
 draw_page source drawing form text =
     page_of_bytes (picture_from source drawing) (bytes_of_file form text)
+
+-- ---- bytes that don't decode
+
+-- They are refused, and not for want of memory.
+abbrev pub RefusesUndecoded : {A : Type 0} → TreeSource → List ℕ → Result A CheckError → Type 0
+RefusesUndecoded source.Tree spelled result = RefusesNodes spelled result
+RefusesUndecoded source.GroupInfo spelled result = RefusesMessage spelled result
+
+-- They have a page, also when an allocation fails.
+abbrev pub ShowsUndecoded : {A E : Type 0} → TreeSource → List ℕ → Result A E → Type 0
+ShowsUndecoded source.Tree spelled result =
+    (n : ℕ) → whole ratchet_tree input_limit spelled ≡ Err n → IsOk result
+ShowsUndecoded source.GroupInfo spelled result =
+    (n : ℕ) → whole mls_message input_limit spelled ≡ Err n → IsOk result

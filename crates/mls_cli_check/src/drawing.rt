@@ -6,8 +6,8 @@ ghost use Rattle.mls_tree.specs.Tree.{term};
 ghost use Rattle.mls_cli_text.specs.Form.{bytes_of_file};
 ghost use Rattle.mls_cli_text.specs.Page.{refused};
 ghost use Rattle.mls_cli_draw.specs.Picture.{DrawsPage};
-ghost use Rattle.mls_cli_check.specs.CheckFaults.{number_of};
-ghost use Rattle.mls_cli_check.specs.Drawing.{draw_page, info_tree_in, picture_by, picture_from, picture_on, tree_from};
+ghost use Rattle.mls_cli_check.specs.CheckFaults.{number_of, RefusesMessage};
+ghost use Rattle.mls_cli_check.specs.Drawing.{draw_page, info_tree_in, picture_by, picture_from, picture_on, tree_from, RefusesUndecoded, ShowsUndecoded};
 
 use crate::check_error::CheckError;
 use crate::group_info::{group_info_in, sent_tree};
@@ -39,7 +39,9 @@ pub enum Drawing {
 /// `WrongMessageKind` (95), `NoTree` (76), `TreeShape` (20) and `TreeFull` (21).
 #[tactic(auto, unfolding(crate::specs::Drawing::info_tree_in))]
 fn info_tree_in(alloc: Global, bytes: &[u8]) -> Result<PublicTree, CheckError>
-    ensures { Answers term number_of (info_tree_in bytes.now) result }
+    ensures tree { Answers term number_of (info_tree_in bytes.now) result }
+    // Bytes that spell no message are refused also when an allocation fails.
+    ensures undecoded { RefusesMessage bytes.now result }
 {
     match group_info_in(alloc, bytes) {
         Ok(info) => sent_tree(&info),
@@ -49,7 +51,8 @@ fn info_tree_in(alloc: Global, bytes: &[u8]) -> Result<PublicTree, CheckError>
 
 /// Reads the tree that the bytes have.
 fn tree_from(alloc: Global, source: TreeSource, bytes: &[u8]) -> Result<PublicTree, CheckError>
-    ensures { Answers term number_of (tree_from source bytes.now) result }
+    ensures tree { Answers term number_of (tree_from source bytes.now) result }
+    ensures undecoded { RefusesUndecoded source bytes.now result }
 {
     match source {
         TreeSource::Tree => tree_in(alloc, bytes),
@@ -61,6 +64,7 @@ fn tree_from(alloc: Global, source: TreeSource, bytes: &[u8]) -> Result<PublicTr
 fn refused_picture(alloc: Global, error: CheckError) -> Result<Page<Row>, AllocError>
     ensures memory { IfOk result (λ _. number_of error ≢ 1) }
     ensures page { DrawsPage result (refused (number_of error)) }
+    ensures refused { number_of error ≢ 1 → IsOk result }
 {
     if error.is_memory() {
         return Err(AllocError);
@@ -85,7 +89,8 @@ fn picture_from(
     drawing: Drawing,
     bytes: &[u8],
 ) -> Result<Page<Row>, AllocError>
-    ensures { DrawsPage result (picture_from source drawing bytes.now) }
+    ensures page { DrawsPage result (picture_from source drawing bytes.now) }
+    ensures undecoded { ShowsUndecoded source bytes.now result }
 {
     match tree_from(alloc, source, bytes) {
         Ok(tree) => picture_by(alloc, drawing, &tree),
@@ -94,8 +99,8 @@ fn picture_from(
 }
 
 /// What is printed of a file's text: the picture of the tree that the file has, drawn as is asked for, or the refusal of
-/// the file (`NotHex` (8)), even when an allocation fails, then that of decoding (2 to 7, 11 to 14), `WrongMessageKind`
-/// (95) and `NoTree` (76) of a GroupInfo, `TreeShape` (20) and `TreeFull` (21).
+/// the file (`NotHex` (8)) and, of a file of bytes, that of decoding (2 to 7, 11 to 14), both also when an allocation
+/// fails, then `WrongMessageKind` (95) and `NoTree` (76) of a GroupInfo, `TreeShape` (20) and `TreeFull` (21).
 pub fn draw_page(
     alloc: Global,
     source: TreeSource,
@@ -105,6 +110,8 @@ pub fn draw_page(
 ) -> Result<Page<Row>, AllocError>
     ensures page { DrawsPage result (draw_page source drawing form text.now) }
     ensures not_hex { bytes_of_file form text.now ≡ None → IsOk result }
+    // Of a file of bytes, those that don't decode are refused also when an allocation fails.
+    ensures undecoded { form ≡ Form.Raw → ShowsUndecoded source text.now result }
 {
     match form {
         Form::Raw => picture_from(alloc, source, drawing, text),

@@ -10,7 +10,9 @@ mod unchecked;
 
 ghost use Rattle.std.specs.Prelude.{◌≡◌, ℕ, ◌≤◌, is_some, length, Err, None, IfOk, IsOk};
 ghost use Rattle.mls_wire.specs.Checks.{Answers};
+ghost use Rattle.mls_wire.specs.Whole.{whole};
 ghost use Rattle.mls_leaf.specs.Limits.{input_limit};
+ghost use Rattle.mls_types.specs.Message.{mls_message};
 ghost use Rattle.mls_cli_text.specs.Form.{bytes_of_file};
 ghost use Rattle.mls_cli_text.specs.Page.{MakesPage};
 ghost use Rattle.mls_cli_check.specs.Check.{check_page, check_page_on, group_in, texts_in};
@@ -136,8 +138,8 @@ pub fn check_page<S: Suite>(
 }
 
 /// What is printed of a file's text: the lines of the GroupInfo that the file has, under the one of two suites that it
-/// names, or the refusal of the file (`NotHex` (8)), even when an allocation fails. Among the suites of equal numbers
-/// the first is taken.
+/// names, or the refusal of the file (`NotHex` (8)) and, of a file of bytes, that of decoding (2 to 7, 11 to 14), both
+/// also when an allocation fails. Among the suites of equal numbers the first is taken.
 #[tactic(auto, unfolding(crate::specs::GroupInfo::group_info_page))]
 pub fn group_info_page<S: Suite, T: Suite>(
     alloc: Global,
@@ -146,6 +148,9 @@ pub fn group_info_page<S: Suite, T: Suite>(
 ) -> Result<Page<Line>, AllocError>
     ensures page { MakesPage result (group_info_page S.crypto T.crypto form text.now) }
     ensures not_hex { bytes_of_file form text.now ≡ None → IsOk result }
+    // Of a file of bytes, those that spell no message are refused also when an allocation fails.
+    ensures undecoded { (n : ℕ) → whole mls_message input_limit text.now ≡ Err n
+        → form ≡ Form.Raw → IsOk result }
 {
     match form {
         Form::Raw => group_info_text::<S, T>(alloc, text),

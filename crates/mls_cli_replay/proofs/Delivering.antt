@@ -1,5 +1,5 @@
 -- Deliveries, one by one: which world was reached, what was counted, and what is left.
-use Rattle.std.proofs.Common.{◌≡◌, ◌∙◌, ◌≤◌, ◌<◌, ◌^◌, ◌+◌, ℕ, List, [], ◌∷◌, ◌++◌, length, take, drop, drop-cons, get_or, add-one, arith, refl, ap, sym, subst}
+use Rattle.std.proofs.Common.{◌≡◌, ◌∙◌, ◌≤◌, ◌<◌, ◌^◌, ◌+◌, ℕ, Err, List, [], ◌∷◌, ◌++◌, length, take, drop, drop-cons, get_or, add-one, arith, refl, ap, sym, subst}
 use Rattle.std.proofs.Math.Seq.{take-length, take-suc}
 use Rattle.std.proofs.lemmas.List.{drop_all, map-append, take-map}
 use Rattle.mls_suite.specs.Crypto.{Crypto}
@@ -13,6 +13,7 @@ use Rattle.mls_model.specs.declared.event.Source.{Source}
 use Rattle.mls_model.specs.World.{World}
 use Rattle.mls_model.specs.Run.{run, replies, step}
 use Rattle.mls_model.proofs.RunLaws.{run_in_parts}
+use Rattle.mls_world_plain.specs.EarlyChecks.{early_checks, early_delivery_checks}
 use Rattle.mls_cli_replay.specs.Actions.{HasRoom, HasRunPart, tally_with, tally_with_effect, deliveries, no_deliveries, tally_from, tally_of}
 use Rattle.mls_cli_replay.specs.declared.deliveries.Tally.{Tally}
 
@@ -141,3 +142,9 @@ delivered_all c w source all i v t le p =
       world = sym (p.world ∙ ap (λ (es : List Event). run c v es) none ∙ run_nothing c v);
       tally = sym (p.tally ∙ ap (λ (es : List Event). tally_from t (replies c v es)) none ∙ tally_none c v t);
     }
+
+-- ---- what is decided before anything grows
+
+pub decided : (w : World) (k : ℕ) (source : Source) (n : ℕ) → early_checks w (event.Deliver k source) ≡ Err n → early_delivery_checks w k source ≡ Err n
+unfolding early_checks
+decided w k source n h = h

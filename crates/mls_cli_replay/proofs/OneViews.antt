@@ -1,9 +1,11 @@
--- Actions that stand for the same calls have one quiet page, and leave one tree.
+-- Actions that stand for the same calls have one quiet page, leave one tree, and come to one JSON.
 use Rattle.std.proofs.Common.{◌≡◌, ◌∙◌, ◌&&◌, ℕ, List, ◌++◌, Option, None, Some, Result, Ok, Err, map, inl, inr, refl, ap, sym, subst}
+use Rattle.serde_json.specs.Data.{Data}
 use Rattle.mls_suite.specs.Crypto.{Crypto}
 use Rattle.mls_model.specs.Member.{Member}
 use Rattle.mls_model.specs.World.{World, empty_world}
 use Rattle.mls_cli_text.specs.Page.{Page, Printout, printout}
+use Rattle.mls_cli_record.specs.Record.{record_of}
 use Rattle.mls_cli_recording.specs.Calls.{Recording, RecordedAction, recorded_view, recording_view}
 use Rattle.mls_cli_recording.specs.CallLaws.{SameReplies, SameRun}
 use Rattle.mls_cli_recording.specs.Recording.{recording}
@@ -12,9 +14,11 @@ use Rattle.mls_cli_recording.specs.declared.reading.RecordedRun.{RecordedRun}
 use Rattle.mls_cli_replay.specs.Actions.{outcomes, run_all}
 use Rattle.mls_cli_replay.specs.MemberTree.{IsSpelling, IsTree, IsTreeOf, IsTreeOn, member_at}
 use Rattle.mls_cli_replay.specs.Message.{digits_text}
-use Rattle.mls_cli_replay.specs.OneView.{OneQuiet, OneTree}
+use Rattle.mls_cli_replay.specs.OneView.{OneQuiet, OneRecord, OneTree, ReadAlike}
 use Rattle.mls_cli_replay.specs.Quiet.{quiet_actions, quiet_entries, quiet_page, quiet_page_of}
 use Rattle.mls_cli_replay.specs.Replay.{ReplayEntry, actions_of, all_met, closing_entries, ending_by, entry_text, expectations_of, final_entries, is_as_expected, is_silent, lines_of}
+use Rattle.mls_cli_replay.specs.RecordedReplies.{IsRecord, IsTextPage, end_texts, reply_texts, words_of_members}
+use Rattle.mls_cli_replay.specs.Reply.{outcome_text}
 use Rattle.mls_cli_replay.specs.Views.{IsPrintoutOn}
 use Rattle.mls_cli_replay.specs.declared.reply.Outcome.{Outcome}
 use Rattle.mls_cli_replay.proofs.Pages.{expects_of, same_actions}
@@ -86,3 +90,24 @@ module _ (same_run : SameRun) (same_replies : SameReplies) where
 
   pub one_tree : OneTree
   one_tree c k file p q e f = one_tree_in c k (recording c.number file) p q e f
+
+  one_record_by : (c : Crypto) (file : List ℕ) (rs ss : List Recorded) (p q : Printout) → map recorded_view rs ≡ map recorded_view ss → IsRecord c file rs p → IsRecord c file ss q → ReadAlike p q
+  one_record_by c file rs ss p q same (d, is, of_rs) (e, are, of_ss) =
+      let both = same_actions same_run same_replies c empty_world rs ss same in
+      let data_same : d ≡ e = cc in
+      let replies : reply_texts c rs ≡ reply_texts c ss = ap (map outcome_text) both.0 in
+      let ends : end_texts c rs ≡ end_texts c ss = ap (λ (w : World). words_of_members w.seats) both.1 in
+      let record_same : record_of (reply_texts c rs) (end_texts c rs) d ≡ record_of (reply_texts c ss) (end_texts c ss) e =
+      ap (λ (ts : List (List ℕ)). record_of ts (end_texts c rs) d) replies
+      ∙ ap (λ (ts : List (List ℕ)). record_of (reply_texts c ss) ts d) ends
+      ∙ ap (λ (x : Data). record_of (reply_texts c ss) (end_texts c ss) x) data_same in
+      inr (record_of (reply_texts c ss) (end_texts c ss) e, subst (λ (x : Data). IsTextPage x p) record_same of_rs, of_ss)
+
+  one_record_in : (c : Crypto) (file : List ℕ) (r : Result Recording ℕ) (p q : Printout) → IsPrintoutOn (λ (x : RecordedRun) (o : Printout). IsRecord c file x.actions.items o) r p
+      → IsPrintoutOn (λ (x : RecordedRun) (o : Printout). IsRecord c file x.actions.items o) r q → ReadAlike p q
+  one_record_in c file (Ok parts) p q (r, is, e) (s, are, f) =
+      one_record_by c file r.actions.items s.actions.items p q (ap (λ (x : Recording). x.actions) (is ∙ sym are)) e f
+  one_record_in c file (Err n) p q e f = inl (e ∙ sym f)
+
+  pub one_record : OneRecord
+  one_record c file p q e f = one_record_in c file (recording c.number file) p q e f

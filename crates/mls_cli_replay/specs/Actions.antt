@@ -1,6 +1,6 @@
 -- What an action of a recording does in a world: an event happens, or each active member gets a
 -- message.
-use Rattle.std.specs.Prelude.{◌≡◌, ℕ, ◌+◌, ◌<◌, ◌^◌, List, [], ◌∷◌, map, take, Result, Ok, Err, IfOk, OnOk, OnErr}
+use Rattle.std.specs.Prelude.{◌≡◌, ℕ, ◌+◌, ◌<◌, ◌^◌, List, [], ◌∷◌, ⊤, map, take, Result, Ok, Err, IfOk, OnOk, OnErr}
 use Rattle.mls_suite.specs.Crypto.{Crypto}
 use Rattle.mls_model.specs.declared.effect.Effect.{Effect}
 use Rattle.mls_model.specs.declared.effect.Effect.TheVariants as effect
@@ -12,6 +12,8 @@ use Rattle.mls_model.specs.declared.event.Source.{Source}
 use Rattle.mls_model.specs.World.{World}
 use Rattle.mls_model.specs.Run.{run, replies, step}
 use Rattle.mls_world_plain.specs.ActiveMembers.{active}
+use Rattle.mls_world_plain.specs.EarlyChecks.{early_checks}
+use Rattle.mls_world_plain.specs.StepAnswer.{RepliesEarly}
 use Rattle.mls_cli_recording.specs.declared.actions.Action.{Action}
 use Rattle.mls_cli_recording.specs.declared.actions.Action.TheVariants as action
 use Rattle.mls_cli_replay.specs.declared.deliveries.Tally.{Tally}
@@ -85,6 +87,18 @@ abbrev pub DeliversOnce : {E : Type 0} → Crypto → World → World → ℕ �
     Type 0
 DeliversOnce c old new k source (Ok r) = step c old (event.Deliver k source) ≡ (r, new)
 DeliversOnce c old new k source (Err e) = new ≡ old
+
+-- What of a delivery is decided before anything grows is its reply also when an allocation fails:
+-- `NoSuchMember` (90), `NoSuchMessage` (94).
+abbrev pub RepliesOnce : {E : Type 0} → World → World → ℕ → Source → Result Reply E → Type 0
+RepliesOnce old new k source result = RepliesEarly (event.Deliver k source) old new result
+
+-- So is what of an event is decided before anything grows.
+abbrev pub ComesEarly : {E : Type 0} → World → World → Action → Result Outcome E → Type 0
+ComesEarly old new (action.Event e) result =
+    (n : ℕ) → early_checks old e ≡ Err n
+    → (result ≡ Ok (outcome.Reply (reply.Refused n))) × (new ≡ old)
+ComesEarly old new (action.DeliverAll source) result = ⊤
 
 -- some of the events have happened, from the first on
 pub record HasRunPart (c : Crypto) (w v : World) (events : List Event) : Type 0 where

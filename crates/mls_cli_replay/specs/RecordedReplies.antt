@@ -35,11 +35,14 @@ end_texts c rs = words_of_members (run_all c empty_world (actions_of rs)).seats
 abbrev pub file_text : List ℕ → List ℕ
 file_text text = text ++ codes "\n"
 
+-- a text of this JSON
+abbrev pub IsTextPage : Data → Printout → Type 0
+IsTextPage d p =
+    (text : List ℕ) × IsTextOf text d × (p ≡ printout file_text (good (text ∷ [])))
+
 -- a text of this JSON, with what the actions came to
 abbrev pub IsRecordOf : Crypto → Data → List Recorded → Printout → Type 0
-IsRecordOf c d rs p =
-    (text : List ℕ) × IsTextOf text (record_of (reply_texts c rs) (end_texts c rs) d)
-    × (p ≡ printout file_text (good (text ∷ [])))
+IsRecordOf c d rs p = IsTextPage (record_of (reply_texts c rs) (end_texts c rs) d) p
 
 -- a text of a file's JSON, with what the actions came to
 abbrev pub IsRecord : Crypto → List ℕ → List Recorded → Printout → Type 0

@@ -2,7 +2,7 @@
 
 ghost use Rattle.std.specs.Prelude.{◌≡◌, ◌≢◌, length, IfOk, IfErr, OnOk};
 ghost use Rattle.mls_cli_text.specs.InputOutput.{write_failed, Writes, WritesPart};
-ghost use Rattle.mls_cli_replay.specs.Actions.{events_in, outcome_in, world_after, DoesAll, RunsPart};
+ghost use Rattle.mls_cli_replay.specs.Actions.{events_in, outcome_in, world_after, ComesEarly, DoesAll, RunsPart};
 ghost use Rattle.mls_cli_replay.specs.Progress.{Reports};
 ghost use Rattle.mls_cli_replay.specs.Replay.{Begins, BeginsAll, BeginsExpected, Ends, Says, SaysAll, SaysExpected, Stops, actions_of, all_meet, is_met, lent_text, meets, said_text};
 
@@ -81,6 +81,8 @@ pub fn do_action<S: Suite>(
     ensures world { OnOk result (world.new ≡ world_after S.crypto world.old action.now) }
     ensures outcome { IfOk result (λ o. o ≡ outcome_in S.crypto world.old action.now) }
     ensures part { RunsPart S.crypto world.old world.new (events_in world.old action.now) result }
+    // What of an event is decided before anything grows is the reply also when an allocation fails.
+    ensures early { ComesEarly world.old world.new action.now result }
 {
     match action {
         Action::Event(event) => {

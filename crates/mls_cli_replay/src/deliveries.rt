@@ -1,7 +1,7 @@
 //! A message, delivered to each active member.
 
 ghost use Rattle.std.specs.Prelude.{◌≡◌};
-ghost use Rattle.mls_cli_replay.specs.Actions.{deliveries, deliveries_to_all, no_deliveries, tally_with, tally_with_effect, DeliversOnce, HasRoom, RunsAll, RunsPart, Tallies};
+ghost use Rattle.mls_cli_replay.specs.Actions.{deliveries, deliveries_to_all, no_deliveries, tally_with, tally_with_effect, DeliversOnce, HasRoom, RepliesOnce, RunsAll, RunsPart, Tallies};
 
 use mls_model::{Effect, Reply, Source};
 use mls_suite::{OutOfMemory, Suite};
@@ -83,7 +83,9 @@ fn deliver<S: Suite>(
     member: usize,
     source: &Source,
 ) -> Result<Reply, OutOfMemory>
-    ensures { DeliversOnce S.crypto world.old world.new member source.now result }
+    ensures does { DeliversOnce S.crypto world.old world.new member source.now result }
+    // `NoSuchMember` (90) and `NoSuchMessage` (94) are the reply also when an allocation fails.
+    ensures early { RepliesOnce world.old world.new member source.now result }
 {
     match world.deliver(member, source) {
         Ok(effect) => Ok(Reply::Delivered { effect }),

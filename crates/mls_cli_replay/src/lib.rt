@@ -25,7 +25,7 @@ ghost use Rattle.mls_cli_replay.specs.Faults.{StopsBehindRun, StopsFile, StopsRu
 ghost use Rattle.mls_cli_replay.specs.Message.{PrintsMessage};
 ghost use Rattle.mls_cli_replay.specs.OneMessage.{OneMessage};
 ghost use Rattle.mls_cli_replay.specs.OneReplay.{OneReplay};
-ghost use Rattle.mls_cli_replay.specs.OneView.{OneQuiet, OneTree};
+ghost use Rattle.mls_cli_replay.specs.OneView.{OneQuiet, OneRecord, OneTree};
 ghost use Rattle.mls_cli_replay.specs.Progress.{ReportsFile, ReportsRun};
 ghost use Rattle.mls_cli_replay.specs.RecordedReplies.{PrintsRecord};
 ghost use Rattle.mls_cli_replay.specs.Views.{PrintsMemberTree, PrintsRecorded, PrintsUnmet, PrintsView};
@@ -315,12 +315,14 @@ pub fn print_view<S: Suite, O: Output, P: Progress>(
 }
 
 /// A file has one replay at most, so the one that `replay` prints is the one that it has, and so has each of its
-/// messages, its quiet replay and each member's tree. The function does nothing.
+/// messages, its quiet replay and each member's tree. Texts of it with what it came to are of one JSON. The function
+/// does nothing.
 pub fn laws_of_replays()
     ensures one { OneReplay }
     ensures message { OneMessage }
     ensures quiet { OneQuiet }
     ensures tree { OneTree }
+    ensures record_texts { OneRecord }
 {
     laws_of_calls();
 }

@@ -17,3 +17,9 @@ returns-in_ok-reply-in-Event-clause-world g c =
 
 pub returns-in_ok-reply-in-Event-clause-outcome : goal.returns-in_ok-reply-in-Event-clause-outcome
 returns-in_ok-reply-in-Event-clause-outcome g c = rw c.in-Event.is (ap (λ (x : Reply × World). outcome.Reply x.0) (sym c.in_ok-reply-in-Event.ensures.does))
+
+pub returns-in_err-reply-in-Event-clause-early : goal.returns-in_err-reply-in-Event-clause-early
+returns-in_err-reply-in-Event-clause-early g c = rw c.in-Event.is (λ n h. let a = c.in_err-reply-in-Event.ensures.refused n h in absurd cc)
+
+pub returns-in_ok-reply-in-Event-clause-early : goal.returns-in_ok-reply-in-Event-clause-early
+returns-in_ok-reply-in-Event-clause-early g c = rw c.in-Event.is (λ n h. let a = c.in_ok-reply-in-Event.ensures.refused n h in (cc, a.1))

@@ -12,12 +12,12 @@ loop-member-init g c =
 pub returns-in_err-reply-clause-part : goal.returns-in_err-reply-clause-part
 returns-in_err-reply-clause-part g c =
     on_err c.from_residual.result
-    (delivered_part g.S.Suite.crypto c.args.world.now c.args.source.now c.args.members.now c.loop-member.member-index c.loop-member.world c.deliver.new.world c.loop-member.tally c.loop-member.invariant c.in_err-reply.ensures)
+    (delivered_part g.S.Suite.crypto c.args.world.now c.args.source.now c.args.members.now c.loop-member.member-index c.loop-member.world c.deliver.new.world c.loop-member.tally c.loop-member.invariant c.in_err-reply.ensures.does)
 
 pub loop-member-preserved : goal.loop-member-preserved
 loop-member-preserved g c =
     delivered_next g.S.Suite.crypto c.args.world.now c.args.source.now c.args.members.now c.loop-member.member-index c.loop-member-test.true
-    c.loop-member.world c.deliver.new.world c.loop-member.tally c.tally_with-tally.result c.in_ok-reply.reply c.loop-member.invariant c.in_ok-reply.ensures c.tally_with-tally.ensures
+    c.loop-member.world c.deliver.new.world c.loop-member.tally c.tally_with-tally.result c.in_ok-reply.reply c.loop-member.invariant c.in_ok-reply.ensures.does c.tally_with-tally.ensures
 
 pub returns-clause-world : goal.returns-clause-world
 returns-clause-world g c =
