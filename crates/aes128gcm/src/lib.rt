@@ -10,8 +10,6 @@ mod laws;
 mod opening;
 mod sbox;
 mod slices;
-#[cfg(test)]
-mod tests;
 
 pub use gcm::seal;
 pub use keys::Aes128;

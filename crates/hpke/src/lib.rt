@@ -7,8 +7,6 @@ mod base;
 mod kem;
 mod labels;
 mod laws;
-#[cfg(test)]
-mod tests;
 
 pub use base::{Sealed, open, seal};
 pub use kem::{KeyPair, derive_key_pair, is_fit, public_key};

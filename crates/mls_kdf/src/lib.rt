@@ -7,8 +7,6 @@ mod hkdf;
 mod hmac_key;
 mod keyed_hash;
 mod labels;
-#[cfg(test)]
-mod tests;
 
 pub use header::content_header;
 pub use hkdf::{expand, extract};

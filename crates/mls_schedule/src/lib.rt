@@ -5,8 +5,6 @@
 mod epoch;
 mod error;
 mod laws;
-#[cfg(test)]
-mod tests;
 mod transcript;
 
 pub use epoch::{Epoch, Start, WelcomeKey};

@@ -5,9 +5,6 @@ ghost use Rattle.std.specs.Prelude.{◌≡◌, ◌<◌, refl};
 ghost use Rattle.mls_suite.specs.Glass.{glass, glass_public, glass_sig_public, glass_box_key, glass_aead_key};
 ghost use Rattle.mls_suite.specs.GlassLaws.{glass_lawful};
 
-#[cfg(test)]
-mod tests;
-
 use crate::boxes::{make_box, open_box};
 use crate::{KeyPair, OutOfMemory, Sealed, Suite};
 use mls_kdf::{Secret, hash, hmac};

@@ -9,9 +9,6 @@ ghost use Rattle.mls_suite_0001.specs.Suite0001Laws.{lawful};
 use mls_suite::{KeyPair, OutOfMemory, Sealed, Suite};
 use std::alloc::Global;
 
-#[cfg(test)]
-mod tests;
-
 /// The cipher suite 0x0001. A signature key is the secret of 32 bytes that RFC 8032 (5.1.5) starts
 /// from.
 pub struct Suite0001;

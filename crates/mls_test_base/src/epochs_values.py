@@ -1,13 +1,12 @@
 #!/usr/bin/env python3
-"""The values of tests.rt, computed with hashlib and hmac alone (RFC 9420, sections 8, 8.2 and 8.5).
+"""The values of epochs.rt, computed with hashlib and hmac alone (RFC 9420, sections 8, 8.2 and 8.5).
 
-    python3 tests_values.py          prints each value as rows of bytes
-    python3 tests_values.py tests.rt says which of them tests.rt lacks
+    python3 epochs_values.py             prints the digits of each value
+    python3 epochs_values.py epochs.rt   says which of them epochs.rt lacks
 """
 
 import hashlib
 import hmac
-import re
 import sys
 
 
@@ -147,15 +146,13 @@ def main():
     if len(sys.argv) < 2:
         for name, value in values():
             print(f"// {name}")
-            row = ", ".join(f"0x{b:02x}" for b in value)
-            print(f"[{row}],")
+            print(value.hex())
         return
     text = open(sys.argv[1]).read()
-    found = re.sub(r"\s", "", text)
     missing = [
         name
         for name, value in values()
-        if ",".join(f"0x{b:02x}" for b in value) not in found
+        if f'"{value.hex()}"' not in text
     ]
     for name in missing:
         print("missing:", name)
