@@ -26,7 +26,7 @@ use Rattle.mls_exchange.specs.Sealing.{seal_message}
 use Rattle.mls_exchange.specs.Opening.{place_checks, open_message}
 use Rattle.mls_exchange.specs.Laws.{IsInRange, OfOneEpoch, IsOwnLeaf, UsesKey, Arrives, Call, Seal, Open, kept_state, after_call, after_calls, StaysInEpoch, IsGone}
 use Rattle.mls_exchange.specs.Generations.{sealed_under, opened_under, key_of, Spares, AllSpare, ArrivesOnce}
-use Rattle.mls_exchange.proofs.Steps.{no_key, decoded}
+use Rattle.mls_exchange.proofs.Steps.{no_key, opened_here}
 use Rattle.mls_exchange.proofs.Genuine.{IsOpening, is_opening}
 use Rattle.mls_exchange.proofs.Sealed.{IsSealing, is_sealing, some_is}
 use Rattle.mls_exchange.proofs.Uses.{uses, opening_uses, sealing_uses, call_stays, calls_stay, stays_on, use_stays, stays_gone}
@@ -152,8 +152,8 @@ opens_once c secret s after bytes o calls of e =
     ap (λ n. member_at n x.sender.leaf_index) share.nodes ∙ subst (λ (i : ℕ). member_at s.nodes i ≡ Some x.leaf) x.from_leaf x.stands in
     let at_leaf = subst (λ (i : ℕ). draft_key v.keys i o.generation ≡ Err 116) x.from_leaf shut in
     let refused = subst (λ (g : ℕ). draft_key v.keys x.sender.leaf_index g ≡ Err 116) x.in_generation at_leaf in
-    decoded c v bytes x.message x.is_read
-    ∙ no_key c v x.message x.sender x.leaf 116 (here v x.message (x.in_group ∙ sym share.group_id) (x.in_epoch ∙ sym share.epoch)) sent stands refused
+    opened_here c v bytes x.message x.is_read (here v x.message (x.in_group ∙ sym share.group_id) (x.in_epoch ∙ sym share.epoch))
+    ∙ no_key c v x.message x.sender x.leaf 116 sent stands refused
 
 -- ---- in whatever order
 
