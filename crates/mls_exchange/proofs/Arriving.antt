@@ -1,7 +1,6 @@
 -- What is sealed arrives.
-use Rattle.std.proofs.Common.{◌≡◌, ℕ, ◌<◌, ◌≤◌, ◌^◌, true, List, length, Option, Some, Result, Ok, Err, refl, sym, ap, ◌∙◌, subst, arith}
-use Rattle.std.specs.Prelude.{codes, ◌==◌}
-use Rattle.std.specs.Str.{bytes_eq}
+use Rattle.std.proofs.Common.{◌≡◌, ℕ, ◌≤◌, true, List, length, Some, Ok, refl, sym, ap, ◌∙◌, subst, arith}
+use Rattle.std.specs.Prelude.{codes}
 use Rattle.std.proofs.lemmas.Bool.{eq-eqb}
 use Rattle.std.proofs.lemmas.Slice.Eq.{bytes_eq-Decides}
 use Rattle.mls_wire.specs.Checks.{passed}
@@ -12,8 +11,6 @@ use Rattle.mls_leaf.specs.declared.leaf.LeafNode.{LeafNode}
 use Rattle.mls_leaf.proofs.WholeLaws.{whole_again}
 use Rattle.mls_suite.specs.Crypto.{Crypto, Lawful}
 use Rattle.mls_suite.specs.Labels.{sign_with_label, verify_with_label}
-use Rattle.mls_suite.specs.LabelLaws.{VerifiesSigned}
-use Rattle.mls_treemath.specs.Paths.{leaf_path}
 use Rattle.mls_secret_tree.specs.declared.secrets.MessageKey.{MessageKey}
 use Rattle.mls_secret_tree.specs.Secrets.{application_key}
 use Rattle.mls_secret_tree.specs.SecretTree.{Drafted, draft_key, next_generation}
@@ -23,8 +20,7 @@ use Rattle.mls_private_message.specs.declared.sender_data.SenderData.{SenderData
 use Rattle.mls_private_message.specs.PrivateContent.{private_content, private_content_at}
 use Rattle.mls_private_message.specs.PrivateMessage.{private_message}
 use Rattle.mls_private_message.specs.Sealing.{open_sender_data, open_content}
-use Rattle.mls_private_message.specs.Signing.{private_content_tbs}
-use Rattle.mls_private_message.specs.Laws.{IsReadAsWritten, OpensAsSealed, sealed_message}
+use Rattle.mls_private_message.specs.Laws.{OpensAsSealed}
 use Rattle.mls_private_message.proofs.Contents.{is_read_as_written}
 use Rattle.mls_private_message.proofs.Sealed.{opens}
 use Rattle.mls_exchange.specs.declared.open.Opened.{Opened}

@@ -1,10 +1,10 @@
 -- What opens is genuine.
-use Rattle.std.proofs.Common.{◌≡◌, ℕ, true, List, Option, Some, Result, Ok, Err, refl, sym, ap, ◌∙◌, subst}
-use Rattle.std.specs.Prelude.{codes, ◌==◌}
+use Rattle.std.proofs.Common.{◌≡◌, ℕ, true, List, Some, Ok, refl, sym, ap, ◌∙◌, subst}
+use Rattle.std.specs.Prelude.{codes}
 use Rattle.std.specs.Str.{bytes_eq}
 use Rattle.std.proofs.lemmas.Bool.{eqb-true}
 use Rattle.std.proofs.lemmas.Slice.Eq.{bytes_eq-Decides}
-use Rattle.mls_wire.specs.Checks.{Passed, passed}
+use Rattle.mls_wire.specs.Checks.{passed}
 use Rattle.mls_wire.specs.CheckLaws.{required}
 use Rattle.mls_wire.specs.Laws.{bind_ok}
 use Rattle.mls_wire.proofs.CheckLaws.{then_ok, require_ok, given_ok}
@@ -13,7 +13,6 @@ use Rattle.mls_leaf.specs.Limits.{input_limit}
 use Rattle.mls_leaf.specs.declared.leaf.LeafNode.{LeafNode}
 use Rattle.mls_suite.specs.Crypto.{Crypto}
 use Rattle.mls_suite.specs.Labels.{verify_with_label}
-use Rattle.mls_types.specs.declared.content.FramedContent.{FramedContent}
 use Rattle.mls_secret_tree.specs.SecretTree.{Drafted, draft_key}
 use Rattle.mls_secret_tree.proofs.TreeLaws.{keys_are_derived}
 use Rattle.mls_private_message.specs.declared.private_message.PrivateMessage.{PrivateMessage}

@@ -1,5 +1,5 @@
 -- The group's identifier and the epoch stand at their place in each message that is read.
-use Rattle.std.proofs.Common.{◌≡◌, ℕ, Bool, true, false, List, length, Result, Ok, Err, refl, sym, ap, ◌∙◌, subst}
+use Rattle.std.proofs.Common.{◌≡◌, ℕ, Bool, true, false, List, length, Result, Ok, Err, refl, sym, ap, ◌∙◌}
 use Rattle.std.specs.Prelude.{◌==◌, nat_lt, if◌then◌else◌}
 use Rattle.std.specs.Int.{w16, w64}
 use Rattle.mls_wire.specs.Laws.{bind_ok, ok_is}
@@ -12,7 +12,7 @@ use Rattle.mls_leaf.specs.Limits.{input_limit}
 use Rattle.mls_private_message.specs.declared.private_message.PrivateMessage.{PrivateMessage}
 use Rattle.mls_private_message.specs.PrivateMessage.{application_type, private_fields, private_message}
 use Rattle.mls_exchange.specs.State.{State}
-use Rattle.mls_exchange.specs.Opening.{place_at, checks_of_place, place_checks, arrival_checks}
+use Rattle.mls_exchange.specs.Opening.{place_at, checks_of_place, arrival_checks}
 
 -- what was read, and the bytes after it
 abbrev Read : Type 0 → Type 0

@@ -1,7 +1,6 @@
 -- Sealing and opening, step by step: where a step refuses, the call does.
-use Rattle.std.proofs.Common.{◌≡◌, ◌≢◌, ℕ, Bool, true, false, List, Option, Some, None, Result, Ok, Err, refl, sym, ap, ◌∙◌}
-use Rattle.std.specs.Prelude.{codes, ◌==◌}
-use Rattle.std.specs.Str.{bytes_eq}
+use Rattle.std.proofs.Common.{◌≡◌, ◌≢◌, ℕ, true, false, List, Some, None, Result, Ok, Err, refl, sym, ap, ◌∙◌}
+use Rattle.std.specs.Prelude.{codes}
 use Rattle.mls_wire.specs.Checks.{passed, ◌>>◌}
 use Rattle.mls_wire.specs.Reading.{◌>>=◌}
 use Rattle.mls_wire.specs.declared.WireError.TheVariants as wire
@@ -20,8 +19,6 @@ use Rattle.mls_private_message.specs.declared.sender_data.SenderData.{SenderData
 use Rattle.mls_private_message.specs.PrivateContent.{private_content, private_content_at}
 use Rattle.mls_private_message.specs.PrivateMessage.{private_message}
 use Rattle.mls_private_message.specs.Sealing.{open_sender_data, open_content}
-use Rattle.mls_private_message.specs.Laws.{sealed_message}
-use Rattle.mls_exchange.specs.declared.open.Opened.{Opened}
 use Rattle.mls_exchange.specs.declared.exchange.Parts.{Parts}
 use Rattle.mls_exchange.specs.Parts.{state_of}
 use Rattle.mls_exchange.specs.State.{State, member_at, after_draft}

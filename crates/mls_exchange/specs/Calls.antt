@@ -1,5 +1,5 @@
 -- What the calls of an exchange promise.
-use Rattle.std.specs.Prelude.{◌≡◌, ℕ, List, Option, Result, Err, IsErrAnd}
+use Rattle.std.specs.Prelude.{◌≡◌, ℕ, List, Result, Err, IsErrAnd}
 use Rattle.std.specs.Borrow.{Bor}
 use Rattle.std.specs.Global.{Vec}
 use Rattle.mls_wire.specs.Checks.{Answers, AnswersOutright, DoesAs, Passed, passed}

@@ -1,4 +1,4 @@
-use Rattle.std.proofs.Common.{◌≡◌, ℕ, Result, Ok, refl, ap, ◌∙◌}
+use Rattle.std.proofs.Common.{ℕ, Result, Ok, refl, ap, ◌∙◌}
 use Rattle.std.proofs.lemmas.Result.{err_from_is_err_and}
 use Rattle.mls_exchange.specs.declared.open.Opened.{Opened}
 use Rattle.mls_exchange.specs.State.{State}
