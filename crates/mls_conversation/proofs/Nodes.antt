@@ -2,7 +2,7 @@
 use Rattle.std.proofs.Common.{◌≡◌, ℕ, zero, suc, ◌*◌, true, List, [], ◌∷◌, get_or, Option, Some, None, refl, sym, ap, ◌∙◌}
 use Rattle.mls_leaf.specs.declared.node.Node.{Node}
 use Rattle.mls_tree_model.specs.Term.{Term, is_perfect, leaf_of}
-use Rattle.mls_tree_model.specs.Arrays.{leaf_in, in_order, term_of, before, without_last_blanks, to_nodes}
+use Rattle.mls_tree_model.specs.Arrays.{leaf_in, in_order, before, without_last_blanks, to_nodes}
 use Rattle.mls_tree_model.proofs.ArrayLaws.{length-in_order, size-perfect, term_of-in_order}
 use Rattle.mls_tree_array.proofs.Numbered.{leaf_of-term_of}
 use Rattle.mls_exchange.specs.State.{member_at}

@@ -1,7 +1,7 @@
 -- The conversation of a member in its epoch (RFC 9420, 6.3 and 9).
 use Rattle.std.specs.Prelude.{◌≡◌, ℕ, not, Result, Ok, Err, IsErrAnd, MatchResult}
 use Rattle.mls_wire.specs.Reading.{◌>>=◌}
-use Rattle.mls_wire.specs.Checks.{Answers, Passed, require, require_some, ◌>>◌}
+use Rattle.mls_wire.specs.Checks.{Answers, require, require_some, ◌>>◌}
 use Rattle.mls_types.specs.GroupContext.{group_context}
 use Rattle.mls_treemath.specs.Steps.{height_of}
 use Rattle.mls_tree_model.specs.Term.{width}

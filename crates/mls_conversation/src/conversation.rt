@@ -1,7 +1,7 @@
 //! A conversation.
 
 ghost use Rattle.std.specs.Prelude.{◌≡◌};
-ghost use Rattle.mls_exchange.specs.Calls.{Seals, RefusesSealing, Opens, RefusesFaults};
+ghost use Rattle.mls_exchange.specs.Calls.{Seals, RefusesSealing, Opens, RefusesArrival};
 ghost use Rattle.mls_conversation.specs.Conversation.{MakesConversation, RefusesConversation, TakesParts};
 
 use crate::ConversationError;
@@ -121,8 +121,8 @@ impl<S: Suite> Conversation<S> {
     /// isn't zeros, `BadMessageSignature` (119) its signature doesn't verify. A refusal changes nothing.
     pub fn open(&mut self, bytes: &[u8]) -> Result<Opened, ExchangeError>
         ensures answer { Opens S.crypto bytes.now self.old self.new result }
-        // Faults of the bytes come also when an allocation fails.
-        ensures outright { RefusesFaults bytes.now result }
+        // Faults of the bytes, 111 and 112 come also when an allocation fails.
+        ensures outright { RefusesArrival self.old bytes.now result }
     {
         self.exchange.open(bytes)
     }

@@ -1,7 +1,6 @@
 -- What is sealed arrives.
-use Rattle.std.proofs.Common.{◌≡◌, ℕ, ◌<◌, ◌≤◌, ◌^◌, true, List, length, Option, Some, Result, Ok, Err, refl, sym, ap, ◌∙◌, subst, arith}
-use Rattle.std.specs.Prelude.{codes, ◌==◌}
-use Rattle.std.specs.Str.{bytes_eq}
+use Rattle.std.proofs.Common.{◌≡◌, ℕ, ◌≤◌, true, List, length, Some, Ok, refl, sym, ap, ◌∙◌, subst, arith}
+use Rattle.std.specs.Prelude.{codes}
 use Rattle.std.proofs.lemmas.Bool.{eq-eqb}
 use Rattle.std.proofs.lemmas.Slice.Eq.{bytes_eq-Decides}
 use Rattle.mls_wire.specs.Checks.{passed}
@@ -12,8 +11,6 @@ use Rattle.mls_leaf.specs.declared.leaf.LeafNode.{LeafNode}
 use Rattle.mls_leaf.proofs.WholeLaws.{whole_again}
 use Rattle.mls_suite.specs.Crypto.{Crypto, Lawful}
 use Rattle.mls_suite.specs.Labels.{sign_with_label, verify_with_label}
-use Rattle.mls_suite.specs.LabelLaws.{VerifiesSigned}
-use Rattle.mls_treemath.specs.Paths.{leaf_path}
 use Rattle.mls_secret_tree.specs.declared.secrets.MessageKey.{MessageKey}
 use Rattle.mls_secret_tree.specs.Secrets.{application_key}
 use Rattle.mls_secret_tree.specs.SecretTree.{Drafted, draft_key, next_generation}
@@ -23,15 +20,14 @@ use Rattle.mls_private_message.specs.declared.sender_data.SenderData.{SenderData
 use Rattle.mls_private_message.specs.PrivateContent.{private_content, private_content_at}
 use Rattle.mls_private_message.specs.PrivateMessage.{private_message}
 use Rattle.mls_private_message.specs.Sealing.{open_sender_data, open_content}
-use Rattle.mls_private_message.specs.Signing.{private_content_tbs}
-use Rattle.mls_private_message.specs.Laws.{IsReadAsWritten, OpensAsSealed, sealed_message}
+use Rattle.mls_private_message.specs.Laws.{OpensAsSealed}
 use Rattle.mls_private_message.proofs.Contents.{is_read_as_written}
 use Rattle.mls_private_message.proofs.Sealed.{opens}
 use Rattle.mls_exchange.specs.declared.open.Opened.{Opened}
 use Rattle.mls_exchange.specs.State.{State, member_at, after_draft}
 use Rattle.mls_exchange.specs.Contents.{application_content, signed_text, within_limit}
 use Rattle.mls_exchange.specs.Sealing.{own_sender_data, seal_message}
-use Rattle.mls_exchange.specs.Opening.{place_checks, signature_check, data_of, opened, open_read, open_message}
+use Rattle.mls_exchange.specs.Opening.{checks_of_place, place_checks, signature_check, data_of, opened, open_here, open_read, open_message}
 use Rattle.mls_exchange.specs.Laws.{IsInRange, OfOneEpoch, IsOwnLeaf, CanOpen, Arrives}
 use Rattle.mls_exchange.proofs.Texts.{within}
 use Rattle.mls_exchange.proofs.Spelled.{message_fits, content_fits, guard_small, sender_fits}
@@ -41,7 +37,7 @@ use Rattle.mls_exchange.proofs.Uses.{uses, held_inside}
 -- ---- opening, from its parts
 
 pub here : (r : State) (m : PrivateMessage) → m.group_id ≡ r.group_id → m.epoch ≡ r.epoch → place_checks r m ≡ Ok passed
-unfolding place_checks
+unfolding checks_of_place
 here r m g e =
     let same_group = (bytes_eq-Decides m.group_id r.group_id).1 g in
     let same_epoch = eq-eqb m.epoch r.epoch e in
@@ -66,7 +62,7 @@ opens_read : (c : Crypto) (r : State) (m : PrivateMessage) (sender : SenderData)
     → draft_key r.keys sender.leaf_index sender.generation ≡ Ok draft → open_content c draft.key sender.reuse_guard m ≡ Ok content
     → data_of c r m sender.leaf_index leaf content ≡ Ok application_data
     → open_read c r m ≡ Ok (opened m sender leaf application_data, after_draft r draft)
-unfolding open_read
+unfolding open_read open_here
 opens_read c r m sender leaf draft content application_data a b d e f g = rw (a, b, d, e, f, g) refl
 
 reads : (c : Crypto) (r : State) (bytes : List ℕ) (m : PrivateMessage) (x : Opened × State) → whole private_message input_limit bytes ≡ Ok m → open_read c r m ≡ Ok x

@@ -1,35 +1,29 @@
 -- No generation falls, none opens twice, and messages open in whatever order.
-use Rattle.std.proofs.Common.{◌≡◌, ◌≢◌, ℕ, suc, max, ◌+◌, ◌<◌, ◌≤◌, ◌^◌, true, inl, inr, List, [], ◌∷◌, Option, Some, None, Result, Ok, Err, refl, sym, ap, ◌∙◌, subst, arith}
+use Rattle.std.proofs.Common.{◌≡◌, ◌≢◌, ℕ, ◌+◌, ◌<◌, ◌≤◌, ◌^◌, true, inl, inr, List, [], ◌∷◌, Option, Some, None, Result, Ok, Err, refl, sym, ap, ◌∙◌, subst, arith}
 use Rattle.std.specs.Prelude.{nat_lt}
 use Rattle.std.proofs.lemmas.Bool.{cases_eq}
-use Rattle.mls_wire.specs.Checks.{passed}
 use Rattle.mls_wire.specs.Laws.{chosen}
-use Rattle.mls_wire.specs.Whole.{whole}
-use Rattle.mls_leaf.specs.Limits.{input_limit}
 use Rattle.mls_leaf.specs.declared.leaf.LeafNode.{LeafNode}
 use Rattle.mls_suite.specs.Crypto.{Crypto, Lawful}
 use Rattle.mls_treemath.specs.Paths.{leaf_path}
 use Rattle.mls_secret_tree.specs.Ratchet.{window}
 use Rattle.mls_secret_tree.specs.Held.{next_below}
-use Rattle.mls_secret_tree.specs.SecretTree.{Tree, Drafted, draft_key, keep_draft, next_generation, in_32_bits}
+use Rattle.mls_secret_tree.specs.SecretTree.{Tree, Drafted, draft_key, next_generation, in_32_bits}
 use Rattle.mls_secret_tree.specs.Holding.{holds, IsTreeOf}
-use Rattle.mls_secret_tree.specs.Laws.{LosesOne}
 use Rattle.mls_secret_tree.specs.Generations.{next_of, MovesOn}
 use Rattle.mls_secret_tree.proofs.TreeLaws.{each_is_answered, is_drafted}
 use Rattle.mls_secret_tree.proofs.Generations.{use_moves_on, rises}
-use Rattle.mls_private_message.specs.declared.private_message.PrivateMessage.{PrivateMessage}
-use Rattle.mls_private_message.specs.PrivateMessage.{private_message}
 use Rattle.mls_private_message.specs.Sealing.{open_sender_data}
 use Rattle.mls_exchange.specs.declared.open.Opened.{Opened}
 use Rattle.mls_exchange.specs.State.{State, member_at, after_draft}
 use Rattle.mls_exchange.specs.Sealing.{seal_message}
-use Rattle.mls_exchange.specs.Opening.{place_checks, open_message}
-use Rattle.mls_exchange.specs.Laws.{IsInRange, OfOneEpoch, IsOwnLeaf, UsesKey, Arrives, Call, Seal, Open, kept_state, after_call, after_calls, StaysInEpoch, IsGone}
+use Rattle.mls_exchange.specs.Opening.{open_message}
+use Rattle.mls_exchange.specs.Laws.{IsInRange, OfOneEpoch, IsOwnLeaf, UsesKey, Call, Seal, Open, kept_state, after_call, after_calls}
 use Rattle.mls_exchange.specs.Generations.{sealed_under, opened_under, key_of, Spares, AllSpare, ArrivesOnce}
-use Rattle.mls_exchange.proofs.Steps.{no_key, decoded}
-use Rattle.mls_exchange.proofs.Genuine.{IsOpening, is_opening}
-use Rattle.mls_exchange.proofs.Sealed.{IsSealing, is_sealing, some_is}
-use Rattle.mls_exchange.proofs.Uses.{uses, opening_uses, sealing_uses, call_stays, calls_stay, stays_on, use_stays, stays_gone}
+use Rattle.mls_exchange.proofs.Steps.{no_key, opened_here}
+use Rattle.mls_exchange.proofs.Genuine.{is_opening}
+use Rattle.mls_exchange.proofs.Sealed.{is_sealing, some_is}
+use Rattle.mls_exchange.proofs.Uses.{uses, opening_uses, call_stays, calls_stay, stays_on, use_stays, stays_gone}
 use Rattle.mls_exchange.proofs.Arriving.{here, sealed_arrives}
 
 -- ---- next generations
@@ -152,8 +146,8 @@ opens_once c secret s after bytes o calls of e =
     ap (λ n. member_at n x.sender.leaf_index) share.nodes ∙ subst (λ (i : ℕ). member_at s.nodes i ≡ Some x.leaf) x.from_leaf x.stands in
     let at_leaf = subst (λ (i : ℕ). draft_key v.keys i o.generation ≡ Err 116) x.from_leaf shut in
     let refused = subst (λ (g : ℕ). draft_key v.keys x.sender.leaf_index g ≡ Err 116) x.in_generation at_leaf in
-    decoded c v bytes x.message x.is_read
-    ∙ no_key c v x.message x.sender x.leaf 116 (here v x.message (x.in_group ∙ sym share.group_id) (x.in_epoch ∙ sym share.epoch)) sent stands refused
+    opened_here c v bytes x.message x.is_read (here v x.message (x.in_group ∙ sym share.group_id) (x.in_epoch ∙ sym share.epoch))
+    ∙ no_key c v x.message x.sender x.leaf 116 sent stands refused
 
 -- ---- in whatever order
 

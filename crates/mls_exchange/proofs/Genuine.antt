@@ -1,10 +1,10 @@
 -- What opens is genuine.
-use Rattle.std.proofs.Common.{◌≡◌, ℕ, true, List, Option, Some, Result, Ok, Err, refl, sym, ap, ◌∙◌, subst}
-use Rattle.std.specs.Prelude.{codes, ◌==◌}
+use Rattle.std.proofs.Common.{◌≡◌, ℕ, true, List, Some, Ok, refl, sym, ap, ◌∙◌, subst}
+use Rattle.std.specs.Prelude.{codes}
 use Rattle.std.specs.Str.{bytes_eq}
 use Rattle.std.proofs.lemmas.Bool.{eqb-true}
 use Rattle.std.proofs.lemmas.Slice.Eq.{bytes_eq-Decides}
-use Rattle.mls_wire.specs.Checks.{Passed, passed}
+use Rattle.mls_wire.specs.Checks.{passed}
 use Rattle.mls_wire.specs.CheckLaws.{required}
 use Rattle.mls_wire.specs.Laws.{bind_ok}
 use Rattle.mls_wire.proofs.CheckLaws.{then_ok, require_ok, given_ok}
@@ -13,7 +13,6 @@ use Rattle.mls_leaf.specs.Limits.{input_limit}
 use Rattle.mls_leaf.specs.declared.leaf.LeafNode.{LeafNode}
 use Rattle.mls_suite.specs.Crypto.{Crypto}
 use Rattle.mls_suite.specs.Labels.{verify_with_label}
-use Rattle.mls_types.specs.declared.content.FramedContent.{FramedContent}
 use Rattle.mls_secret_tree.specs.SecretTree.{Drafted, draft_key}
 use Rattle.mls_secret_tree.proofs.TreeLaws.{keys_are_derived}
 use Rattle.mls_private_message.specs.declared.private_message.PrivateMessage.{PrivateMessage}
@@ -25,7 +24,7 @@ use Rattle.mls_private_message.specs.Signing.{private_content_tbs}
 use Rattle.mls_exchange.specs.declared.open.Opened.{Opened}
 use Rattle.mls_exchange.specs.State.{State, member_at, after_draft}
 use Rattle.mls_exchange.specs.Contents.{application_content, signed_text, within_limit}
-use Rattle.mls_exchange.specs.Opening.{place_checks, signature_check, data_of, opened, open_read, open_message}
+use Rattle.mls_exchange.specs.Opening.{checks_of_place, place_checks, signature_check, data_of, opened, open_here, open_read, open_message}
 use Rattle.mls_exchange.specs.Laws.{IsGenuine}
 use Rattle.mls_exchange.proofs.Texts.{ok_is, IsWithin, is_within, signed_is}
 
@@ -36,7 +35,7 @@ record IsHere (s : State) (m : PrivateMessage) : Type 0 where
   in_epoch : m.epoch ≡ s.epoch
 
 is_here : (s : State) (m : PrivateMessage) → place_checks s m ≡ Ok passed → IsHere s m
-unfolding place_checks
+unfolding checks_of_place
 is_here s m e =
     let p = require_ok 111 (bytes_eq m.group_id s.group_id) _ _ e in
     record { in_group = (bytes_eq-Decides m.group_id s.group_id).0 p.0; in_epoch = eqb-true m.epoch s.epoch (required 112 _ _ p.1) }
@@ -124,7 +123,7 @@ genuine c s bytes m sender leaf draft content application_data read parts =
     }
 
 pub is_opening : (c : Crypto) (s : State) (bytes : List ℕ) (o : Opened) (after : State) → open_message c s bytes ≡ Ok (o, after) → IsOpening c s bytes o after
-unfolding open_message open_read
+unfolding open_message open_read open_here
 is_opening c s bytes o after e =
     let read = bind_ok (whole private_message input_limit bytes) _ _ e in
     let m = read.0 in

@@ -7,3 +7,4 @@ pub mod Arriving
 pub mod Generations
 pub mod Refused
 pub mod Steps
+pub mod Places

@@ -1,26 +1,23 @@
 -- What a sealing that succeeded made, step by step.
-use Rattle.std.proofs.Common.{◌≡◌, ℕ, ◌<◌, ◌≤◌, ◌^◌, true, inl, inr, List, length, Option, Some, None, Result, Ok, Err, refl, sym, ap, ◌∙◌, subst}
+use Rattle.std.proofs.Common.{◌≡◌, ℕ, ◌<◌, ◌≤◌, ◌^◌, inl, inr, List, length, Option, Some, None, Result, Ok, refl, sym, ap, ◌∙◌, subst}
 use Rattle.std.specs.Prelude.{codes, nat_lt}
 use Rattle.std.proofs.lemmas.Bool.{ltb-true}
-use Rattle.mls_wire.specs.Checks.{Passed, passed}
 use Rattle.mls_wire.specs.Laws.{bind_ok, chosen}
 use Rattle.mls_wire.proofs.CheckLaws.{require_ok, given_ok}
 use Rattle.mls_leaf.specs.Limits.{input_limit}
 use Rattle.mls_suite.specs.Crypto.{Crypto}
 use Rattle.mls_suite.specs.Labels.{sign_with_label}
-use Rattle.mls_types.specs.declared.content.FramedContent.{FramedContent}
 use Rattle.mls_treemath.specs.Paths.{leaf_path}
 use Rattle.mls_secret_tree.specs.Held.{next_below}
 use Rattle.mls_secret_tree.specs.SecretTree.{Tree, Drafted, draft_key, next_generation, in_32_bits}
 use Rattle.mls_secret_tree.specs.declared.secrets.MessageKey.{MessageKey}
 use Rattle.mls_private_message.specs.declared.private_message.PrivateMessage.{PrivateMessage}
-use Rattle.mls_private_message.specs.declared.sender_data.SenderData.{SenderData}
 use Rattle.mls_private_message.specs.PrivateContent.{private_content}
 use Rattle.mls_private_message.specs.PrivateMessage.{private_message}
 use Rattle.mls_private_message.specs.Signing.{private_content_tbs}
 use Rattle.mls_private_message.specs.Laws.{sealed_message}
 use Rattle.mls_exchange.specs.State.{State, after_draft}
-use Rattle.mls_exchange.specs.Contents.{application_content, signed_text, within_limit}
+use Rattle.mls_exchange.specs.Contents.{application_content, signed_text}
 use Rattle.mls_exchange.specs.Sealing.{own_sender_data, own_signature, own_content, message_under, are_short, sealing_checks, seal_message}
 use Rattle.mls_exchange.proofs.Texts.{ok_is, IsWithin, is_within, signed_is}
 

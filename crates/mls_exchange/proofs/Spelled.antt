@@ -1,5 +1,5 @@
 -- Messages whose numbers are in range have a spelling, unless a vector in them is too long.
-use Rattle.std.proofs.Common.{◌≡◌, ℕ, ◌+◌, ◌%◌, ◌<◌, ◌≤◌, ◌^◌, List, ◌++◌, length, arith, lit<, length-append, append_assoc}
+use Rattle.std.proofs.Common.{◌≡◌, ℕ, ◌<◌, ◌≤◌, ◌^◌, List, ◌++◌, length, arith, length-append, append_assoc}
 use Rattle.std.specs.Prelude.{replicate}
 use Rattle.std.specs.Int.{w8, w16, w64}
 use Rattle.mls_wire.specs.Reading.{uint, header, opaque}

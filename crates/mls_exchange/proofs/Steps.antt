@@ -1,8 +1,8 @@
 -- Sealing and opening, step by step: where a step refuses, the call does.
-use Rattle.std.proofs.Common.{◌≡◌, ◌≢◌, ℕ, Bool, true, false, List, Option, Some, None, Result, Ok, Err, refl, sym, ap, ◌∙◌}
-use Rattle.std.specs.Prelude.{codes, ◌==◌}
-use Rattle.std.specs.Str.{bytes_eq}
-use Rattle.mls_wire.specs.Checks.{passed}
+use Rattle.std.proofs.Common.{◌≡◌, ◌≢◌, ℕ, true, false, List, Some, None, Result, Ok, Err, refl, sym, ap, ◌∙◌}
+use Rattle.std.specs.Prelude.{codes}
+use Rattle.mls_wire.specs.Checks.{passed, ◌>>◌}
+use Rattle.mls_wire.specs.Reading.{◌>>=◌}
 use Rattle.mls_wire.specs.declared.WireError.TheVariants as wire
 use Rattle.mls_wire.specs.Whole.{whole}
 use Rattle.mls_leaf.specs.declared.error.LeafError.{LeafError}
@@ -19,14 +19,12 @@ use Rattle.mls_private_message.specs.declared.sender_data.SenderData.{SenderData
 use Rattle.mls_private_message.specs.PrivateContent.{private_content, private_content_at}
 use Rattle.mls_private_message.specs.PrivateMessage.{private_message}
 use Rattle.mls_private_message.specs.Sealing.{open_sender_data, open_content}
-use Rattle.mls_private_message.specs.Laws.{sealed_message}
-use Rattle.mls_exchange.specs.declared.open.Opened.{Opened}
 use Rattle.mls_exchange.specs.declared.exchange.Parts.{Parts}
 use Rattle.mls_exchange.specs.Parts.{state_of}
 use Rattle.mls_exchange.specs.State.{State, member_at, after_draft}
 use Rattle.mls_exchange.specs.Contents.{application_content, signed_text, within_limit}
 use Rattle.mls_exchange.specs.Sealing.{own_sender_data, own_signature, own_content, message_under, are_short, reuse_guard, sealing_checks, seal_message}
-use Rattle.mls_exchange.specs.Opening.{place_checks, signature_check, data_of, opened, open_read, open_message}
+use Rattle.mls_exchange.specs.Opening.{place_checks, arrival_checks, signature_check, data_of, opened, open_here, open_read, open_message}
 
 -- ---- sealing
 
@@ -129,43 +127,37 @@ module _ (c : Crypto) (s : State) (m : PrivateMessage) (sender : ℕ) (leaf : Le
   says content bytes d signature e f h = rw (e, f, h) refl
 
 module _ (c : Crypto) (s : State) (m : PrivateMessage) where
-  pub elsewhere : (n : ℕ) → place_checks s m ≡ Err n → open_read c s m ≡ Err n
-  unfolding open_read
-  elsewhere n e = rw e refl
+  pub no_sender : (n : ℕ) → open_sender_data c s.sender_data_secret m ≡ Err n → open_here c s m ≡ Err n
+  unfolding open_here
+  no_sender n f = rw f refl
 
-  pub no_sender : (n : ℕ) → place_checks s m ≡ Ok passed → open_sender_data c s.sender_data_secret m ≡ Err n → open_read c s m ≡ Err n
-  unfolding open_read
-  no_sender n e f = rw (e, f) refl
+  pub no_leaf : (sender : SenderData) → open_sender_data c s.sender_data_secret m ≡ Ok sender
+      → member_at s.nodes sender.leaf_index ≡ None → open_here c s m ≡ Err 114
+  unfolding open_here
+  no_leaf sender f h = rw (f, h) refl
 
-  pub no_leaf : (sender : SenderData) → place_checks s m ≡ Ok passed → open_sender_data c s.sender_data_secret m ≡ Ok sender
-      → member_at s.nodes sender.leaf_index ≡ None → open_read c s m ≡ Err 114
-  unfolding open_read
-  no_leaf sender e f h = rw (e, f, h) refl
+  pub no_key : (sender : SenderData) (leaf : LeafNode) (n : ℕ) → open_sender_data c s.sender_data_secret m ≡ Ok sender
+      → member_at s.nodes sender.leaf_index ≡ Some leaf → draft_key s.keys sender.leaf_index sender.generation ≡ Err n → open_here c s m ≡ Err n
+  unfolding open_here
+  no_key sender leaf n f h i = rw (f, h, i) refl
 
-  pub no_key : (sender : SenderData) (leaf : LeafNode) (n : ℕ) → place_checks s m ≡ Ok passed → open_sender_data c s.sender_data_secret m ≡ Ok sender
-      → member_at s.nodes sender.leaf_index ≡ Some leaf → draft_key s.keys sender.leaf_index sender.generation ≡ Err n → open_read c s m ≡ Err n
-  unfolding open_read
-  no_key sender leaf n e f h i = rw (e, f, h, i) refl
+  pub no_content : (sender : SenderData) (leaf : LeafNode) (draft : Drafted) (n : ℕ) → open_sender_data c s.sender_data_secret m ≡ Ok sender → member_at s.nodes sender.leaf_index ≡ Some leaf
+      → draft_key s.keys sender.leaf_index sender.generation ≡ Ok draft → open_content c draft.key sender.reuse_guard m ≡ Err n → open_here c s m ≡ Err n
+  unfolding open_here
+  no_content sender leaf draft n f h i j = rw (f, h, i, j) refl
 
-  pub no_content : (sender : SenderData) (leaf : LeafNode) (draft : Drafted) (n : ℕ) → place_checks s m ≡ Ok passed
-      → open_sender_data c s.sender_data_secret m ≡ Ok sender → member_at s.nodes sender.leaf_index ≡ Some leaf
-      → draft_key s.keys sender.leaf_index sender.generation ≡ Ok draft → open_content c draft.key sender.reuse_guard m ≡ Err n → open_read c s m ≡ Err n
-  unfolding open_read
-  no_content sender leaf draft n e f h i j = rw (e, f, h, i, j) refl
-
-  pub no_data : (sender : SenderData) (leaf : LeafNode) (draft : Drafted) (content : List ℕ) (n : ℕ) → place_checks s m ≡ Ok passed
-      → open_sender_data c s.sender_data_secret m ≡ Ok sender → member_at s.nodes sender.leaf_index ≡ Some leaf
+  pub no_data : (sender : SenderData) (leaf : LeafNode) (draft : Drafted) (content : List ℕ) (n : ℕ) → open_sender_data c s.sender_data_secret m ≡ Ok sender → member_at s.nodes sender.leaf_index ≡ Some leaf
       → draft_key s.keys sender.leaf_index sender.generation ≡ Ok draft → open_content c draft.key sender.reuse_guard m ≡ Ok content
-      → data_of c s m sender.leaf_index leaf content ≡ Err n → open_read c s m ≡ Err n
-  unfolding open_read
-  no_data sender leaf draft content n e f h i j k = rw (e, f, h, i, j, k) refl
+      → data_of c s m sender.leaf_index leaf content ≡ Err n → open_here c s m ≡ Err n
+  unfolding open_here
+  no_data sender leaf draft content n f h i j k = rw (f, h, i, j, k) refl
 
 -- where no step refuses, this is what was opened
 pub opens : (c : Crypto) (s : State) (m : PrivateMessage) (sender : SenderData) (leaf : LeafNode) (draft : Drafted) (content d identity : List ℕ)
-    → place_checks s m ≡ Ok passed → open_sender_data c s.sender_data_secret m ≡ Ok sender → member_at s.nodes sender.leaf_index ≡ Some leaf
+    → open_sender_data c s.sender_data_secret m ≡ Ok sender → member_at s.nodes sender.leaf_index ≡ Some leaf
     → draft_key s.keys sender.leaf_index sender.generation ≡ Ok draft → open_content c draft.key sender.reuse_guard m ≡ Ok content
     → data_of c s m sender.leaf_index leaf content ≡ Ok d → identity ≡ leaf.credential.identity
-    → open_read c s m ≡ Ok (
+    → open_here c s m ≡ Ok (
       record {
         leaf_index = sender.leaf_index;
         identity = identity;
@@ -175,8 +167,8 @@ pub opens : (c : Crypto) (s : State) (m : PrivateMessage) (sender : SenderData) 
       },
       after_draft s draft,
     )
-unfolding open_read opened
-opens c s m sender leaf draft content d identity e f h i j k same = rw (e, f, h, i, j, k, same) refl
+unfolding open_here opened
+opens c s m sender leaf draft content d identity f h i j k same = rw (f, h, i, j, k, same) refl
 
 -- the parts once their keys were replaced
 pub after_keep : (s : State) (d : Drafted) (p : Parts) (keys : Tree) → state_of p ≡ s → keys ≡ keep_draft p.keys d
@@ -198,11 +190,29 @@ fault_of UnsupportedProposal r h ne = h
 fault_of NotRising r h ne = h
 fault_of ExtensionNotAllowed r h ne = h
 
+-- ---- what arrives
+
 pub not_decoded : (c : Crypto) (s : State) (bytes : List ℕ) (n : ℕ) → whole private_message input_limit bytes ≡ Err n → open_message c s bytes ≡ Err n
 unfolding open_message
 not_decoded c s bytes n e = rw e refl
 
-pub decoded : (c : Crypto) (s : State) (bytes : List ℕ) (m : PrivateMessage) → whole private_message input_limit bytes ≡ Ok m
-    → open_message c s bytes ≡ open_read c s m
-unfolding open_message
-decoded c s bytes m e = rw e refl
+pub not_arrived : (c : Crypto) (s : State) (bytes : List ℕ) (n : ℕ) → arrival_checks s bytes ≡ Err n → open_message c s bytes ≡ Err n
+unfolding open_message arrival_checks open_read
+not_arrived c s bytes n e = elsewhere (whole private_message input_limit bytes) e
+  where
+    elsewhere : (r : Result PrivateMessage ℕ) → (r >>= λ m. place_checks s m) ≡ Err n → (r >>= λ m. place_checks s m >> open_here c s m) ≡ Err n
+    elsewhere (Ok m) e = rw e refl
+    elsewhere (Err k) e = cc
+
+pub arrived : (c : Crypto) (s : State) (bytes : List ℕ) (m : PrivateMessage) → arrival_checks s bytes ≡ Ok passed → whole private_message input_limit bytes ≡ Ok m
+    → open_message c s bytes ≡ open_here c s m
+unfolding open_message arrival_checks open_read
+arrived c s bytes m e is =
+    let here : place_checks s m ≡ Ok passed = sym (ap (λ (r : Result PrivateMessage ℕ). r >>= λ m. place_checks s m) is) ∙ e in
+    rw (is, here) refl
+
+-- a message of the group and epoch
+pub opened_here : (c : Crypto) (s : State) (bytes : List ℕ) (m : PrivateMessage) → whole private_message input_limit bytes ≡ Ok m → place_checks s m ≡ Ok passed
+    → open_message c s bytes ≡ open_here c s m
+unfolding open_message open_read
+opened_here c s bytes m is e = rw (is, e) refl

@@ -1,5 +1,5 @@
 -- A key that was used is gone, and stays so.
-use Rattle.std.proofs.Common.{◌≡◌, ℕ, ◌<◌, ◌^◌, true, false, ◌&&◌, inl, inr, List, [], ◌∷◌, Option, Some, Result, Ok, Err, refl, sym, ap, ◌∙◌, subst}
+use Rattle.std.proofs.Common.{◌≡◌, ℕ, ◌<◌, ◌^◌, true, false, ◌&&◌, inl, inr, List, [], ◌∷◌, Some, Result, Ok, Err, refl, sym, ap, ◌∙◌, subst}
 use Rattle.std.proofs.lemmas.Bool.{cases_lt, le-ltb, false_from_ne_true}
 use Rattle.mls_suite.specs.Crypto.{Crypto}
 use Rattle.mls_treemath.specs.Paths.{leaf_path}
@@ -11,9 +11,9 @@ use Rattle.mls_exchange.specs.declared.open.Opened.{Opened}
 use Rattle.mls_exchange.specs.State.{State, after_draft}
 use Rattle.mls_exchange.specs.Sealing.{seal_message}
 use Rattle.mls_exchange.specs.Opening.{open_message}
-use Rattle.mls_exchange.specs.Laws.{OfOneEpoch, UsesKey, Call, Seal, Open, kept_state, after_call, after_calls, StaysInEpoch, IsGone, StaysGone}
-use Rattle.mls_exchange.proofs.Genuine.{IsOpening, is_opening}
-use Rattle.mls_exchange.proofs.Sealed.{IsSealing, is_sealing, some_is}
+use Rattle.mls_exchange.specs.Laws.{UsesKey, Call, Seal, Open, kept_state, after_call, after_calls, StaysInEpoch, IsGone, StaysGone}
+use Rattle.mls_exchange.proofs.Genuine.{is_opening}
+use Rattle.mls_exchange.proofs.Sealed.{is_sealing, some_is}
 
 -- ---- one use
 

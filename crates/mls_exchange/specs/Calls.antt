@@ -1,9 +1,10 @@
 -- What the calls of an exchange promise.
-use Rattle.std.specs.Prelude.{◌≡◌, ℕ, List, Option, Result, Err, IsErrAnd}
+use Rattle.std.specs.Prelude.{◌≡◌, ℕ, List, Result, Err, IsErrAnd}
+use Rattle.std.specs.Borrow.{Bor}
 use Rattle.std.specs.Global.{Vec}
 use Rattle.mls_wire.specs.Checks.{Answers, AnswersOutright, DoesAs, Passed, passed}
-use Rattle.mls_wire.specs.Whole.{whole}
-use Rattle.mls_leaf.specs.Limits.{input_limit}
+use Rattle.mls_leaf.specs.Faults.{number_of as number_of_leaf}
+use Rattle.mls_leaf.specs.declared.error.LeafError.{LeafError}
 use Rattle.mls_leaf.specs.declared.leaf.LeafNode.{LeafNode}
 use Rattle.mls_suite.specs.Crypto.{Crypto}
 use Rattle.mls_secret_tree.specs.declared.secrets.MessageKey.{MessageKey}
@@ -11,13 +12,12 @@ use Rattle.mls_secret_tree.specs.SecretTree.{Drafted}
 use Rattle.mls_private_message.specs.declared.content.ReadContent.{ReadContent}
 use Rattle.mls_private_message.specs.declared.private_message.PrivateMessage.{PrivateMessage}
 use Rattle.mls_private_message.specs.declared.sender_data.SenderData.{SenderData}
-use Rattle.mls_private_message.specs.PrivateMessage.{private_message}
 use Rattle.mls_exchange.specs.declared.error.ExchangeError.{ExchangeError}
 use Rattle.mls_exchange.specs.declared.open.Opened.{Opened}
 use Rattle.mls_exchange.specs.declared.seal.Plain.{Plain}
 use Rattle.mls_exchange.specs.State.{State, after_draft}
 use Rattle.mls_exchange.specs.Sealing.{own_signature, own_content, message_under, seal_message, sealing_checks}
-use Rattle.mls_exchange.specs.Opening.{signature_check, data_of, open_read, open_message}
+use Rattle.mls_exchange.specs.Opening.{place_at, arrival_checks, signature_check, data_of, open_here, open_message}
 use Rattle.mls_exchange.specs.Faults.{number_of}
 
 -- A call answers what the definition does, or refuses with its number. Where memory was refused it says nothing.
@@ -88,14 +88,18 @@ abbrev pub GivesData : Crypto → State → PrivateMessage → ℕ → LeafNode 
     Result (List ℕ) ExchangeError → Type 0
 GivesData c s m sender leaf content result = Gives (data_of c s m sender leaf content) result
 
--- what a message says, with the draft of its key
-abbrev pub OpensRead : Crypto → State → PrivateMessage → Result (Opened × Drafted) ExchangeError →
+-- The call lends the group's identifier and the epoch at their place, or answers the first fault. It takes no memory.
+abbrev pub LendsPlace : List ℕ → Result (Bor (List ℕ) × ℕ) LeafError → Type 0
+LendsPlace bytes result = AnswersOutright (λ x. (x.0.now, x.1)) number_of_leaf (place_at bytes) result
+
+-- what a message of the group and epoch says, with the draft of its key
+abbrev pub OpensHere : Crypto → State → PrivateMessage → Result (Opened × Drafted) ExchangeError →
     Type 0
-OpensRead c s m result = Answers (λ x. (x.0, after_draft s x.1)) number_of (open_read c s m) result
+OpensHere c s m result = Answers (λ x. (x.0, after_draft s x.1)) number_of (open_here c s m) result
 
 -- opening: the message's bytes
 abbrev pub Opens : Crypto → List ℕ → State → State → Result Opened ExchangeError → Type 0
 Opens c bytes old new result = DoesAs (λ o. o) number_of (open_message c old bytes) old new result
 
-abbrev pub RefusesFaults : List ℕ → Result Opened ExchangeError → Type 0
-RefusesFaults bytes result = RefusesOutright (whole private_message input_limit bytes) result
+abbrev pub RefusesArrival : State → List ℕ → Result Opened ExchangeError → Type 0
+RefusesArrival s bytes result = RefusesOutright (arrival_checks s bytes) result

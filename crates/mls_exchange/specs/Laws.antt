@@ -19,7 +19,7 @@ use Rattle.mls_private_message.specs.PrivateMessage.{private_message}
 use Rattle.mls_private_message.specs.Sealing.{open_sender_data, open_content}
 use Rattle.mls_private_message.specs.Signing.{private_content_tbs}
 use Rattle.mls_exchange.specs.declared.open.Opened.{Opened}
-use Rattle.mls_exchange.specs.State.{State, member_at, after_draft}
+use Rattle.mls_exchange.specs.State.{State, member_at}
 use Rattle.mls_exchange.specs.Contents.{application_content}
 use Rattle.mls_exchange.specs.Sealing.{seal_message}
 use Rattle.mls_exchange.specs.Opening.{open_message}

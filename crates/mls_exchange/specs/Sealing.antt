@@ -2,7 +2,7 @@
 use Rattle.std.specs.Prelude.{ℕ, ◌^◌, ◌%◌, nat_le, Bool, ◌&&◌, List, [], length, codes, Result, Ok}
 use Rattle.std.specs.Int.{w32, from_be_bytes}
 use Rattle.mls_wire.specs.Reading.{◌>>=◌}
-use Rattle.mls_wire.specs.Checks.{Passed, require, require_some, ◌>>◌}
+use Rattle.mls_wire.specs.Checks.{require, require_some, ◌>>◌}
 use Rattle.mls_kdf.specs.Kdf.{expand_with_label}
 use Rattle.mls_leaf.specs.Limits.{input_limit}
 use Rattle.mls_suite.specs.Crypto.{Crypto}

@@ -1,18 +1,19 @@
 //! Opening.
 
 ghost use Rattle.mls_private_message.specs.PrivateMessage.{private_message};
-ghost use Rattle.mls_exchange.specs.Opening.{place_checks};
-ghost use Rattle.mls_exchange.specs.Calls.{ChecksSignature, GivesData, PassesOutright, OpensRead, Opens, RefusesFaults};
+ghost use Rattle.mls_exchange.specs.Opening.{arrival_checks, checks_of_place};
+ghost use Rattle.mls_exchange.specs.Calls.{ChecksSignature, GivesData, LendsPlace, PassesOutright, OpensHere, Opens, RefusesArrival};
 
 use crate::ExchangeError;
 use crate::exchange::{Exchange, member_at, within_limit};
 use crate::said::{Said, signed_text};
-use mls_leaf::{Bytes, Codec, LeafNode};
+use mls_leaf::{Bytes, Codec, LeafError, LeafNode};
 use mls_private_message::{
     PrivateMessage, ReadContent, open_content, open_sender_data, read_content,
 };
 use mls_secret_tree::{Draft, SecretTreeError};
 use mls_suite::{Suite, verify_with_label};
+use mls_wire::Reader;
 
 /// What was opened of a message.
 #[derive(Debug, PartialEq, Eq, Drop)]
@@ -29,19 +30,43 @@ pub struct Opened {
     pub authenticated_data: Bytes,
 }
 
+/// The group's identifier and the epoch of a PrivateMessage (RFC 9420, 6.3), lent from its bytes, of which nothing else
+/// is read. Takes no memory.
+#[tactic(auto, unfolding(crate::specs::Opening::place_at))]
+fn place_in(bytes: &[u8]) -> Result<(&[u8], u64), LeafError>
+    ensures { LendsPlace bytes.now result }
+{
+    let mut reader = Reader::new(bytes);
+    reader.u16()?;
+    reader.u16()?;
+    let group_id = reader.opaque()?;
+    let epoch = reader.u64()?;
+    Ok((group_id, epoch))
+}
+
 impl<S: Suite> Exchange<S> {
-    /// `OtherGroup` (111) a message of another group, `OtherEpoch` (112) of another epoch (RFC 9420, 6). Takes no memory.
-    #[tactic(auto, unfolding(crate::specs::Opening::place_checks))]
-    fn check_place(&self, message: &PrivateMessage) -> Result<(), ExchangeError>
-        ensures { PassesOutright (place_checks self.now message.now) result }
+    /// `OtherGroup` (111) another group, `OtherEpoch` (112) another epoch (RFC 9420, 6). Takes no memory.
+    #[tactic(auto, unfolding(crate::specs::Opening::checks_of_place))]
+    fn check_place(&self, group_id: &[u8], epoch: u64) -> Result<(), ExchangeError>
+        ensures { PassesOutright (checks_of_place self.now group_id.now epoch) result }
     {
-        if message.group_id.as_slice() != self.parts.group_id.as_slice() {
+        if group_id != self.parts.group_id.as_slice() {
             return Err(ExchangeError::OtherGroup);
         }
-        if message.epoch != self.parts.epoch {
+        if epoch != self.parts.epoch {
             return Err(ExchangeError::OtherEpoch);
         }
         Ok(())
+    }
+
+    /// The first fault of bytes that are no PrivateMessage with application data, then `OtherGroup` (111) a message of
+    /// another group, `OtherEpoch` (112) of another epoch (RFC 9420, 6). Takes no memory.
+    fn check_arrival(&self, bytes: &[u8]) -> Result<(), ExchangeError>
+        ensures { PassesOutright (arrival_checks self.now bytes.now) result }
+    {
+        PrivateMessage::check_all(bytes)?;
+        let (group_id, epoch) = place_in(bytes)?;
+        self.check_place(group_id, epoch)
     }
 
     /// `BadMessageSignature` (119) where the signature of data doesn't verify by the sender's leaf (RFC 9420, 6.1).
@@ -90,12 +115,11 @@ impl<S: Suite> Exchange<S> {
         Ok(Bytes::from_slice(self.alloc, said.application_data)?)
     }
 
-    /// What a message says, and the draft of its key (RFC 9420, 6.3).
-    fn open_read(&self, message: PrivateMessage) -> Result<(Opened, Draft), ExchangeError>
+    /// What a message of the group and epoch says, and the draft of its key (RFC 9420, 6.3).
+    fn open_here(&self, message: PrivateMessage) -> Result<(Opened, Draft), ExchangeError>
         requires { private_message.Fits message }
-        ensures { OpensRead S.crypto self.now message result }
+        ensures { OpensHere S.crypto self.now message result }
     {
-        self.check_place(&message)?;
         let secret = &self.parts.sender_data_secret;
         let sender = open_sender_data::<S>(self.alloc, secret, &message)?;
         let Some(leaf) = member_at(&self.parts.nodes, sender.leaf_index) else {
@@ -128,11 +152,12 @@ impl<S: Suite> Exchange<S> {
     /// isn't zeros, `BadMessageSignature` (119) its signature doesn't verify. A refusal changes nothing.
     pub fn open(&mut self, bytes: &[u8]) -> Result<Opened, ExchangeError>
         ensures answer { Opens S.crypto bytes.now self.old self.new result }
-        // Faults of the bytes come also when an allocation fails.
-        ensures outright { RefusesFaults bytes.now result }
+        // Faults of the bytes, 111 and 112 come also when an allocation fails.
+        ensures outright { RefusesArrival self.old bytes.now result }
     {
+        self.check_arrival(bytes)?;
         let message = PrivateMessage::decode(self.alloc, bytes)?;
-        let (opened, draft) = self.open_read(message)?;
+        let (opened, draft) = self.open_here(message)?;
         self.parts.keys.keep(draft);
         Ok(opened)
     }

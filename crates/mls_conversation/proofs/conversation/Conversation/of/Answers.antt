@@ -1,4 +1,4 @@
-use Rattle.std.proofs.Common.{◌≡◌, Ok, false, sym, ap, ◌∙◌}
+use Rattle.std.proofs.Common.{◌≡◌, Ok, sym, ap, ◌∙◌}
 use Rattle.mls_schedule.specs.Epoch.{encryption_secret}
 use Rattle.mls_tree_model.specs.Term.{width}
 use Rattle.mls_model.specs.PublicState.{PublicState}

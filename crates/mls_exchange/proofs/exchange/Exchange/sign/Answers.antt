@@ -1,10 +1,9 @@
 use Rattle.std.proofs.Common.{◌≡◌, List, Result, Ok, sym, ap, ◌∙◌}
-use Rattle.std.specs.Prelude.{ℕ, codes, Err}
+use Rattle.std.specs.Prelude.{ℕ, codes}
 use Rattle.std.proofs.lemmas.Result.{err_from_is_err_and}
 use Rattle.mls_suite.specs.Labels.{sign_with_label}
 use Rattle.mls_exchange.specs.State.{State}
 use Rattle.mls_exchange.specs.Parts.{state_of}
-use Rattle.mls_exchange.specs.Contents.{application_content, signed_text}
 use Rattle.mls_exchange.specs.Faults.{number_of}
 use Rattle.mls_exchange.proofs.Steps.{unsigned, signs}
 use Rattle.mls_exchange.proofs.exchange.Exchange.sign.Goals as goal

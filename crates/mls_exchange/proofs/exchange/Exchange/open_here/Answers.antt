@@ -1,22 +1,17 @@
-use Rattle.std.proofs.Common.{◌≡◌, ℕ, List, Some, None, Ok, sym, ap, ◌∙◌}
+use Rattle.std.proofs.Common.{sym, ap, ◌∙◌}
 use Rattle.std.proofs.lemmas.Result.{err_from_is_err_and}
 use Rattle.mls_secret_tree.specs.declared.secrets.MessageKey.{MessageKey}
 use Rattle.mls_secret_tree.specs.SecretTree.{draft_key}
 use Rattle.mls_private_message.specs.Sealing.{open_sender_data, open_content}
 use Rattle.mls_exchange.specs.State.{State, member_at}
-use Rattle.mls_exchange.proofs.Steps.{elsewhere, no_sender, no_leaf, no_key, no_content, no_data, opens}
-use Rattle.mls_exchange.proofs.exchange.Exchange.open_read.Goals as goal
-
-pub returns-in_err-check_place : goal.returns-in_err-check_place
-returns-in_err-check_place g c =
-    let p = err_from_is_err_and c.from_residual.result c.from_residual.ensures.1 in
-    rw (p.1, p.2) (λ memory. elsewhere g.S.Suite.crypto c.args.self.now c.args.message _ c.in_err-check_place.ensures)
+use Rattle.mls_exchange.proofs.Steps.{no_sender, no_leaf, no_key, no_content, no_data, opens}
+use Rattle.mls_exchange.proofs.exchange.Exchange.open_here.Goals as goal
 
 pub returns-in_err-sender : goal.returns-in_err-sender
 returns-in_err-sender g c =
-    let p = err_from_is_err_and c.from_residual-in_err-sender.result c.from_residual-in_err-sender.ensures.1 in
+    let p = err_from_is_err_and c.from_residual.result c.from_residual.ensures.1 in
     rw (p.1, p.2) (λ memory.
-    no_sender g.S.Suite.crypto c.args.self.now c.args.message _ c.in_ok-check_place.ensures
+    no_sender g.S.Suite.crypto c.args.self.now c.args.message _
     (ap (λ (x : State). open_sender_data g.S.Suite.crypto x.sender_data_secret c.args.message) (sym c.self.view_is) ∙ c.in_err-sender.ensures memory))
 
 pub returns-in_default : goal.returns-in_default
@@ -24,7 +19,7 @@ returns-in_default g c =
     let i = c.in_ok-sender.sender.leaf_index in
     let sent = ap (λ (x : State). open_sender_data g.S.Suite.crypto x.sender_data_secret c.args.message) (sym c.self.view_is) ∙ c.in_ok-sender.ensures in
     let none = ap (λ (x : State). member_at x.nodes i) (sym c.self.view_is) ∙ ap (λ n. member_at n i) (sym c.deref.ensures.value) ∙ sym c.in_default.ensures in
-    λ memory. no_leaf g.S.Suite.crypto c.args.self.now c.args.message c.in_ok-sender.sender c.in_ok-check_place.ensures sent none
+    λ memory. no_leaf g.S.Suite.crypto c.args.self.now c.args.message c.in_ok-sender.sender sent none
 
 pub returns-in_err-draft : goal.returns-in_err-draft
 returns-in_err-draft g c =
@@ -34,7 +29,7 @@ returns-in_err-draft g c =
     let stands = ap (λ (x : State). member_at x.nodes i) (sym c.self.view_is) ∙ ap (λ n. member_at n i) (sym c.deref.ensures.value) ∙ sym c.in-Some.ensures in
     let p = err_from_is_err_and c.from_residual-in_err-draft.result c.from_residual-in_err-draft.ensures.1 in
     rw (p.1, p.2) (λ memory.
-    no_key g.S.Suite.crypto c.args.self.now c.args.message c.in_ok-sender.sender c.in-Some.leaf.now _ c.in_ok-check_place.ensures sent stands
+    no_key g.S.Suite.crypto c.args.self.now c.args.message c.in_ok-sender.sender c.in-Some.leaf.now _ sent stands
     (ap (λ (x : State). draft_key x.keys i k) (sym c.self.view_is) ∙ c.in_err-draft.ensures.answer memory))
 
 pub returns-in_err-content : goal.returns-in_err-content
@@ -46,7 +41,7 @@ returns-in_err-content g c =
     let drafted = ap (λ (x : State). draft_key x.keys i k) (sym c.self.view_is) ∙ c.in_ok-draft.ensures.answer in
     let p = err_from_is_err_and c.from_residual-in_err-content.result c.from_residual-in_err-content.ensures.1 in
     rw (p.1, p.2) (λ memory.
-    no_content g.S.Suite.crypto c.args.self.now c.args.message c.in_ok-sender.sender c.in-Some.leaf.now c.in_ok-draft.draft _ c.in_ok-check_place.ensures sent stands drafted
+    no_content g.S.Suite.crypto c.args.self.now c.args.message c.in_ok-sender.sender c.in-Some.leaf.now c.in_ok-draft.draft _ sent stands drafted
     (ap (λ (x : MessageKey). open_content g.S.Suite.crypto x c.in_ok-sender.sender.reuse_guard c.args.message) (sym c.key.ensures) ∙ c.in_err-content.ensures memory))
 
 pub returns-in_err-application_data : goal.returns-in_err-application_data
@@ -60,7 +55,7 @@ returns-in_err-application_data g c =
     ap (λ (x : MessageKey). open_content g.S.Suite.crypto x c.in_ok-sender.sender.reuse_guard c.args.message) (sym c.key.ensures) ∙ c.in_ok-content.ensures in
     let p = err_from_is_err_and c.from_residual-in_err-application_data.result c.from_residual-in_err-application_data.ensures.1 in
     rw (p.1, p.2) (λ memory.
-    no_data g.S.Suite.crypto c.args.self.now c.args.message c.in_ok-sender.sender c.in-Some.leaf.now c.in_ok-draft.draft c.in_ok-content.content.items _ c.in_ok-check_place.ensures sent
+    no_data g.S.Suite.crypto c.args.self.now c.args.message c.in_ok-sender.sender c.in-Some.leaf.now c.in_ok-draft.draft c.in_ok-content.content.items _ sent
     stands drafted content (c.in_err-application_data.ensures memory))
 
 pub returns : goal.returns
@@ -73,5 +68,5 @@ returns g c =
     let content =
     ap (λ (x : MessageKey). open_content g.S.Suite.crypto x c.in_ok-sender.sender.reuse_guard c.args.message) (sym c.key.ensures) ∙ c.in_ok-content.ensures in
     opens g.S.Suite.crypto c.args.self.now c.args.message c.in_ok-sender.sender c.in-Some.leaf.now c.in_ok-draft.draft c.in_ok-content.content.items
-    c.in_ok-application_data.application_data c.in_ok-identity.identity c.in_ok-check_place.ensures sent stands drafted content c.in_ok-application_data.ensures
+    c.in_ok-application_data.application_data c.in_ok-identity.identity sent stands drafted content c.in_ok-application_data.ensures
     c.in_ok-identity.ensures.cases
