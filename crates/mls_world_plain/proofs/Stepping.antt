@@ -17,7 +17,8 @@ use Rattle.mls_model.specs.declared.event.WorldItem.{WorldItem}
 use Rattle.mls_model.specs.declared.event.WorldItem.TheVariants.{RefOf, Add, Remove, Extensions}
 use Rattle.mls_model.specs.declared.event.Event.{Event}
 use Rattle.mls_model.specs.declared.event.Event.TheVariants as event
-use Rattle.mls_model.specs.Messages.{decode_message, public_in, welcome_in, sender_leaf, is_handshake, content_tag}
+use Rattle.mls_model.specs.Messages.{decode_message, public_in, sender_leaf, is_handshake, content_tag}
+use Rattle.mls_model.specs.OpenedWelcome.{welcome_in}
 use Rattle.mls_model.specs.Member.{Member, Pending}
 use Rattle.mls_model.specs.Verdict.{own_pending}
 use Rattle.mls_tree_model.specs.Term.{leaf_of}

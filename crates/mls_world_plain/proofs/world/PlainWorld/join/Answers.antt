@@ -3,7 +3,7 @@ use Rattle.mls_model.specs.declared.origin.Origin.TheVariants as from
 use Rattle.mls_model.specs.Candidate.{Candidate}
 use Rattle.mls_model.specs.Join.{JoinedMember, join_verdict}
 use Rattle.mls_model.specs.Journal.{new_journal}
-use Rattle.mls_model.specs.World.{Entrant, World, bytes_of, commit_for_joiner, with_new_member}
+use Rattle.mls_model.specs.World.{Entrant, World, commit_for_joiner, with_new_member}
 use Rattle.mls_world_plain.specs.CallParts.{commit_made_at, IsThere}
 use Rattle.mls_world_plain.proofs.EarlyChecks.{join_nobody, join_unlent, join_refused as refused_early}
 use Rattle.mls_world_plain.proofs.Entering.{join_begun, join_absent, join_unread, join_refused, entrant_within}
