@@ -145,6 +145,6 @@ delivered_all c w source all i v t le p =
 
 -- ---- what is decided before anything grows
 
-pub decided : (w : World) (k : ℕ) (source : Source) (n : ℕ) → early_checks w (event.Deliver k source) ≡ Err n → early_delivery_checks w k source ≡ Err n
+pub decided : (number : ℕ) (w : World) (k : ℕ) (source : Source) (n : ℕ) → early_checks number w (event.Deliver k source) ≡ Err n → early_delivery_checks w k source ≡ Err n
 unfolding early_checks
-decided w k source n h = h
+decided number w k source n h = h

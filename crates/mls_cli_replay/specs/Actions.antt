@@ -88,17 +88,17 @@ abbrev pub DeliversOnce : {E : Type 0} → Crypto → World → World → ℕ �
 DeliversOnce c old new k source (Ok r) = step c old (event.Deliver k source) ≡ (r, new)
 DeliversOnce c old new k source (Err e) = new ≡ old
 
--- What of a delivery is decided before anything grows is its reply also when an allocation fails:
--- `NoSuchMember` (90), `NoSuchMessage` (94).
-abbrev pub RepliesOnce : {E : Type 0} → World → World → ℕ → Source → Result Reply E → Type 0
-RepliesOnce old new k source result = RepliesEarly (event.Deliver k source) old new result
+-- What of a delivery is decided before anything grows is its reply also when an allocation fails.
+abbrev pub RepliesOnce : {E : Type 0} → Crypto → World → World → ℕ → Source → Result Reply E →
+    Type 0
+RepliesOnce c old new k source result = RepliesEarly c.number (event.Deliver k source) old new result
 
 -- So is what of an event is decided before anything grows.
-abbrev pub ComesEarly : {E : Type 0} → World → World → Action → Result Outcome E → Type 0
-ComesEarly old new (action.Event e) result =
-    (n : ℕ) → early_checks old e ≡ Err n
+abbrev pub ComesEarly : {E : Type 0} → Crypto → World → World → Action → Result Outcome E → Type 0
+ComesEarly c old new (action.Event e) result =
+    (n : ℕ) → early_checks c.number old e ≡ Err n
     → (result ≡ Ok (outcome.Reply (reply.Refused n))) × (new ≡ old)
-ComesEarly old new (action.DeliverAll source) result = ⊤
+ComesEarly c old new (action.DeliverAll source) result = ⊤
 
 -- some of the events have happened, from the first on
 pub record HasRunPart (c : Crypto) (w v : World) (events : List Event) : Type 0 where

@@ -82,7 +82,7 @@ pub fn do_action<S: Suite>(
     ensures outcome { IfOk result (λ o. o ≡ outcome_in S.crypto world.old action.now) }
     ensures part { RunsPart S.crypto world.old world.new (events_in world.old action.now) result }
     // What of an event is decided before anything grows is the reply also when an allocation fails.
-    ensures early { ComesEarly world.old world.new action.now result }
+    ensures early { ComesEarly S.crypto world.old world.new action.now result }
 {
     match action {
         Action::Event(event) => {

@@ -84,8 +84,9 @@ fn deliver<S: Suite>(
     source: &Source,
 ) -> Result<Reply, OutOfMemory>
     ensures does { DeliversOnce S.crypto world.old world.new member source.now result }
-    // `NoSuchMember` (90) and `NoSuchMessage` (94) are the reply also when an allocation fails.
-    ensures early { RepliesOnce world.old world.new member source.now result }
+    // `NoSuchMember` (90), `NoSuchMessage` (94) and what the member refuses before anything grows are the reply also
+    // when an allocation fails.
+    ensures early { RepliesOnce S.crypto world.old world.new member source.now result }
 {
     match world.deliver(member, source) {
         Ok(effect) => Ok(Reply::Delivered { effect }),

@@ -131,7 +131,8 @@ impl<S: Suite> World<S> {
     /// and 12.4.2).
     pub fn deliver(&mut self, member: usize, source: &Source) -> Result<Effect, WorldError>
         ensures does { DeliversTo S.crypto self.old self.new member source.now result }
-        // `NoSuchMember` (90) and `NoSuchMessage` (94) come also when an allocation fails.
+        // `NoSuchMember` (90), `NoSuchMessage` (94) and `Gone` (40), and of bytes that aren't the member's pending
+        // commit decoding's and `NotPublicMessage` (41) to `BadMembershipTag` (46), come also when an allocation fails.
         ensures outright { RefusesEarly (early_delivery_checks self.old member source.now) result }
         ensures headline { Headline S.crypto self.new }
     {
@@ -145,8 +146,10 @@ impl<S: Suite> World<S> {
     /// GroupInfo.
     pub fn join(&mut self, candidate: usize, source: &Source) -> Result<NewMember, WorldError>
         ensures does { JoinsBy S.crypto self.old self.new candidate source.now result }
-        // `NoSuchCandidate` (92), `CandidateSpent` (91) and `NoSuchMessage` (94) come also when an allocation fails.
-        ensures outright { RefusesEarly (early_join_checks self.old candidate source.now) result }
+        // `NoSuchCandidate` (92), `CandidateSpent` (91), `NoSuchMessage` (94), decoding's, `NotWelcome` (70) and
+        // `WrongSuite` (71) of the Welcome come also when an allocation fails.
+        ensures outright { RefusesEarly
+            (early_join_checks S.crypto.number self.old candidate source.now) result }
         ensures headline { Headline S.crypto self.new }
     {
         know_source(source);

@@ -55,7 +55,7 @@ impl<S: Suite> World<S> {
     pub fn step(&mut self, event: &Event) -> Result<Reply, OutOfMemory>
         ensures does { DoesStep S.crypto event.now self.old self.new result }
         // What is decided before anything grows is the reply also when an allocation fails.
-        ensures refused { RepliesEarly event.now self.old self.new result }
+        ensures refused { RepliesEarly S.crypto.number event.now self.old self.new result }
         ensures headline { Headline S.crypto self.new }
     {
         know_event(event);

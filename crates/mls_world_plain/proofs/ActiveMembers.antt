@@ -5,7 +5,6 @@ use Rattle.std.proofs.lemmas.List.{drop_all}
 use Rattle.mls_model.specs.Member.{Member}
 use Rattle.mls_model.specs.World.{World, Seat}
 use Rattle.mls_world_plain.specs.ActiveMembers.{active_from, active_behind, is_active, stays}
-use Rattle.mls_world_plain.specs.CallAnswers.{seated_member}
 
 abbrev members : List Seat → List Member
 members seats = map (λ (s : Seat). s.member) seats

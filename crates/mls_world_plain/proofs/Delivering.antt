@@ -6,6 +6,7 @@ use Rattle.mls_model.specs.declared.effect.Effect.{Effect}
 use Rattle.mls_model.specs.declared.event.Source.{Source}
 use Rattle.mls_model.specs.declared.event.Reply.{Reply}
 use Rattle.mls_model.specs.declared.event.Reply.TheVariants as reply
+use Rattle.mls_member.specs.EarlyChecks.{early_checks as early_member_checks}
 use Rattle.mls_model.specs.Journal.{Journal}
 use Rattle.mls_model.specs.WorldCalls.{deliver_answer}
 use Rattle.mls_model.specs.World.{Entrant, World, bytes_of}
@@ -14,7 +15,7 @@ use Rattle.mls_world_plain.specs.Faults.{number_of}
 use Rattle.mls_world_plain.specs.CallParts.{seat_verdict}
 use Rattle.mls_world_plain.specs.StoredWorld.{AreMore, Seated, Making, seat_of, world_of, AreStored}
 use Rattle.mls_world_plain.specs.EarlyChecks.{early_delivery_checks}
-use Rattle.mls_world_plain.proofs.EarlyChecks.{delivery_refused}
+use Rattle.mls_world_plain.proofs.EarlyChecks.{delivery_unlent, delivery_refused}
 use Rattle.mls_world_plain.proofs.Stores.{seat_found, unchanged}
 use Rattle.mls_world_plain.proofs.Changing.{delivered, undelivered, no_source, seat_moved, seat_kept}
 
@@ -46,7 +47,13 @@ not_lent c es ss ms ds js k s source e lt at lent = (
 )
 
 -- what is refused before anything grows, of a member that is there
-pub source_refused : (es : List Entrant) (ss : List Seated) (ms : List (List ℕ)) (ds : List Making) (js : List Journal) (w : World) (k : ℕ) (s : Seated) (source : Source) (n : ℕ)
-    → world_of es ss ms ds js ≡ w → k < length ss → s ≡ get_or ss k s → early_delivery_checks w k source ≡ Err n → bytes_of (world_of es ss ms ds js) source ≡ Err n
-source_refused es ss ms ds js w k s source n is lt at h =
-    delivery_refused (world_of es ss ms ds js) k source (seat_of js s) n (seat_found js ss k s lt at) (subst (λ (v : World). early_delivery_checks v k source ≡ Err n) (sym is) h)
+module _ (es : List Entrant) (ss : List Seated) (ms : List (List ℕ)) (ds : List Making) (js : List Journal) (w : World) (k : ℕ) (s : Seated) (source : Source) (n : ℕ)
+    (is : world_of es ss ms ds js ≡ w) (lt : k < length ss) (at : s ≡ get_or ss k s) (h : early_delivery_checks w k source ≡ Err n) where
+  here : early_delivery_checks (world_of es ss ms ds js) k source ≡ Err n
+  here = subst (λ (v : World). early_delivery_checks v k source ≡ Err n) (sym is) h
+
+  pub source_unlent : (m : ℕ) → bytes_of (world_of es ss ms ds js) source ≡ Err m → m ≡ n
+  source_unlent m lent = delivery_unlent (world_of es ss ms ds js) k source (seat_of js s) n (seat_found js ss k s lt at) here m lent
+
+  pub source_refused : (bytes : List ℕ) → bytes_of (world_of es ss ms ds js) source ≡ Ok bytes → early_member_checks s.member bytes ≡ Err n
+  source_refused bytes lent = delivery_refused (world_of es ss ms ds js) k source (seat_of js s) n (seat_found js ss k s lt at) here bytes lent

@@ -10,6 +10,8 @@ use Rattle.mls_leaf.specs.declared.extension.Extension.{Extension}
 use Rattle.mls_leaf.specs.declared.proposal.Proposal.TheVariants as proposal
 use Rattle.mls_leaf.specs.declared.key_package.KeyPackage.{KeyPackage}
 use Rattle.mls_tree.proofs.RefusalLaws.{one_number, not_refused}
+use Rattle.mls_join.specs.Entrance.{welcome_outer_checks}
+use Rattle.mls_member.specs.EarlyChecks.{early_checks as early_member_checks}
 use Rattle.mls_model.specs.declared.event.Source.{Source}
 use Rattle.mls_model.specs.declared.event.WorldItem.{WorldItem}
 use Rattle.mls_model.specs.declared.event.WorldItem.TheVariants.{Add}
@@ -162,20 +164,38 @@ commit_passes w k items list n lt is h = list_passes w items list n is (commit_r
 
 -- ---- deliveries
 
+-- what is checked of bytes that a source gives
+abbrev pub of_source : World → Source → (List ℕ → Result Passed ℕ) → Result Passed ℕ
+of_source w source checks = bytes_of w source >>= checks
+
 pub delivery_nobody : (w : World) (k : ℕ) (source : Source) (n : ℕ) → slice_get w.seats k ≡ None → early_delivery_checks w k source ≡ Err n → 90 ≡ n
 unfolding early_delivery_checks
-delivery_nobody w k source n e h = at_first (seat_at w k) (λ s. check_of (bytes_of w source)) 90 n (nobody w k e) h
+delivery_nobody w k source n e h = at_first (seat_at w k) (λ s. of_source w source (early_member_checks s.member)) 90 n (nobody w k e) h
 
-pub delivery_refused : (w : World) (k : ℕ) (source : Source) (s : Seat) (n : ℕ) → slice_get w.seats k ≡ Some s → early_delivery_checks w k source ≡ Err n → bytes_of w source ≡ Err n
-unfolding early_delivery_checks
-delivery_refused w k source s n e h = unchecked (bytes_of w source) n (behind (seat_at w k) (λ s. check_of (bytes_of w source)) s n (somebody w k s e) h)
+module _ (w : World) (k : ℕ) (source : Source) (s : Seat) (n : ℕ) (e : slice_get w.seats k ≡ Some s) (h : early_delivery_checks w k source ≡ Err n) where
+  of_bytes : of_source w source (early_member_checks s.member) ≡ Err n
+  unfolding early_delivery_checks
+  of_bytes = behind (seat_at w k) (λ s. of_source w source (early_member_checks s.member)) s n (somebody w k s e) h
+
+  pub delivery_unlent : (m : ℕ) → bytes_of w source ≡ Err m → m ≡ n
+  delivery_unlent m is = at_first (bytes_of w source) (early_member_checks s.member) m n is of_bytes
+
+  pub delivery_refused : (bytes : List ℕ) → bytes_of w source ≡ Ok bytes → early_member_checks s.member bytes ≡ Err n
+  delivery_refused bytes is = behind (bytes_of w source) (early_member_checks s.member) bytes n is of_bytes
 
 -- ---- joins
 
-pub join_nobody : (w : World) (k : ℕ) (source : Source) (m n : ℕ) → entrant_at w k ≡ Err m → early_join_checks w k source ≡ Err n → m ≡ n
+pub join_nobody : (number : ℕ) (w : World) (k : ℕ) (source : Source) (m n : ℕ) → entrant_at w k ≡ Err m → early_join_checks number w k source ≡ Err n → m ≡ n
 unfolding early_join_checks
-join_nobody w k source m n e h = at_first (entrant_at w k) (λ x. check_of (bytes_of w source)) m n e h
+join_nobody number w k source m n e h = at_first (entrant_at w k) (λ x. of_source w source (welcome_outer_checks number)) m n e h
 
-pub join_refused : (w : World) (k : ℕ) (source : Source) (x : Entrant) (n : ℕ) → entrant_at w k ≡ Ok x → early_join_checks w k source ≡ Err n → bytes_of w source ≡ Err n
-unfolding early_join_checks
-join_refused w k source x n e h = unchecked (bytes_of w source) n (behind (entrant_at w k) (λ x. check_of (bytes_of w source)) x n e h)
+module _ (number : ℕ) (w : World) (k : ℕ) (source : Source) (x : Entrant) (n : ℕ) (e : entrant_at w k ≡ Ok x) (h : early_join_checks number w k source ≡ Err n) where
+  of_welcome : of_source w source (welcome_outer_checks number) ≡ Err n
+  unfolding early_join_checks
+  of_welcome = behind (entrant_at w k) (λ x. of_source w source (welcome_outer_checks number)) x n e h
+
+  pub join_unlent : (m : ℕ) → bytes_of w source ≡ Err m → m ≡ n
+  join_unlent m is = at_first (bytes_of w source) (welcome_outer_checks number) m n is of_welcome
+
+  pub join_refused : (bytes : List ℕ) → bytes_of w source ≡ Ok bytes → welcome_outer_checks number bytes ≡ Err n
+  join_refused bytes is = behind (bytes_of w source) (welcome_outer_checks number) bytes n is of_welcome

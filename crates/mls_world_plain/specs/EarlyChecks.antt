@@ -6,6 +6,8 @@ use Rattle.mls_wire.specs.Reading.{◌>>=◌}
 use Rattle.mls_leaf.specs.GroupExtensions.{are_allowed}
 use Rattle.mls_leaf.specs.declared.extension.Extension.{Extension}
 use Rattle.mls_tree.specs.Refusals.{RefusesOutright}
+use Rattle.mls_join.specs.Entrance.{welcome_outer_checks}
+use Rattle.mls_member.specs.EarlyChecks.{early_checks as early_member_checks}
 use Rattle.mls_model.specs.declared.event.Event.{Event}
 use Rattle.mls_model.specs.declared.event.Event.TheVariants as event
 use Rattle.mls_model.specs.declared.event.Source.{Source}
@@ -46,23 +48,27 @@ first_checks w (x ∷ xs) = check_of (item_of w x)
 unfoldable pub early_commit_checks : World → ℕ → List WorldItem → Result Passed ℕ
 early_commit_checks w k items = seat_at w k >>= λ s. first_checks w items
 
--- the checks of a delivery: `NoSuchMember` (90), `NoSuchMessage` (94)
+-- the checks of a delivery: `NoSuchMember` (90), `NoSuchMessage` (94), then the member's: `Gone` (40), and of bytes that
+-- aren't its pending commit decoding and `NotPublicMessage` (41) to `BadMembershipTag` (46)
 unfoldable pub early_delivery_checks : World → ℕ → Source → Result Passed ℕ
-early_delivery_checks w k source = seat_at w k >>= λ s. check_of (bytes_of w source)
+early_delivery_checks w k source =
+    seat_at w k >>= λ s. bytes_of w source >>= λ bytes. early_member_checks s.member bytes
 
--- the checks of a join: `NoSuchCandidate` (92), `CandidateSpent` (91), `NoSuchMessage` (94)
-unfoldable pub early_join_checks : World → ℕ → Source → Result Passed ℕ
-early_join_checks w n source = entrant_at w n >>= λ e. check_of (bytes_of w source)
+-- the checks of a join, for a suite's number: `NoSuchCandidate` (92), `CandidateSpent` (91), `NoSuchMessage` (94), then
+-- decoding, `NotWelcome` (70) and `WrongSuite` (71) of the Welcome
+unfoldable pub early_join_checks : ℕ → World → ℕ → Source → Result Passed ℕ
+early_join_checks number w n source =
+    entrant_at w n >>= λ e. bytes_of w source >>= λ bytes. welcome_outer_checks number bytes
 
--- the checks of an event; a candidate has none
-unfoldable pub early_checks : World → Event → Result Passed ℕ
-early_checks w (event.Candidate identity seed) = Ok passed
-early_checks w (event.Create n group seed) = check_of (entrant_at w n)
-early_checks w (event.ProposeAdd k source) = early_add_checks w k source
-early_checks w (event.ProposeUpdate k seed) = check_of (seat_at w k)
-early_checks w (event.ProposeRemove k leaf) = check_of (seat_at w k)
-early_checks w (event.ProposeExtensions k list) = early_extensions_checks w k list.items
-early_checks w (event.Commit k items path seed) = early_commit_checks w k items.items
-early_checks w (event.DropPending k) = check_of (seat_at w k)
-early_checks w (event.Deliver k source) = early_delivery_checks w k source
-early_checks w (event.Join n source) = early_join_checks w n source
+-- the checks of an event, for a suite's number; a candidate has none
+unfoldable pub early_checks : ℕ → World → Event → Result Passed ℕ
+early_checks number w (event.Candidate identity seed) = Ok passed
+early_checks number w (event.Create n group seed) = check_of (entrant_at w n)
+early_checks number w (event.ProposeAdd k source) = early_add_checks w k source
+early_checks number w (event.ProposeUpdate k seed) = check_of (seat_at w k)
+early_checks number w (event.ProposeRemove k leaf) = check_of (seat_at w k)
+early_checks number w (event.ProposeExtensions k list) = early_extensions_checks w k list.items
+early_checks number w (event.Commit k items path seed) = early_commit_checks w k items.items
+early_checks number w (event.DropPending k) = check_of (seat_at w k)
+early_checks number w (event.Deliver k source) = early_delivery_checks w k source
+early_checks number w (event.Join n source) = early_join_checks number w n source

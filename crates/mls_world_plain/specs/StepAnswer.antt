@@ -13,6 +13,7 @@ abbrev pub DoesStep : {E : Type 0} → Crypto → Event → World → World → 
 DoesStep c event old new (Ok r) = step c old event ≡ (r, new)
 DoesStep c event old new (Err e) = new ≡ old
 
--- What is decided before anything grows is the reply also when an allocation fails, and changes nothing.
-abbrev pub RepliesEarly : {E : Type 0} → Event → World → World → Result Reply E → Type 0
-RepliesEarly event old new result = (n : ℕ) → early_checks old event ≡ Err n → (result ≡ Ok (reply.Refused n)) × (new ≡ old)
+-- What is decided before anything grows, for a suite's number, is the reply also when an allocation fails, and changes
+-- nothing.
+abbrev pub RepliesEarly : {E : Type 0} → ℕ → Event → World → World → Result Reply E → Type 0
+RepliesEarly number event old new result = (n : ℕ) → early_checks number old event ≡ Err n → (result ≡ Ok (reply.Refused n)) × (new ≡ old)

@@ -1,6 +1,9 @@
 //! Deliveries to members.
 
-ghost use Rattle.std.specs.Prelude.{◌≡◌, ◌<◌, length, IfOk};
+ghost use Rattle.std.specs.Prelude.{◌≡◌, ◌≢◌, ◌<◌, ℕ, Err, length, IfOk};
+ghost use Rattle.mls_member.specs.EarlyChecks.{early_checks as early_member_checks};
+ghost use Rattle.mls_model.specs.Verdict.{verdict};
+ghost use Rattle.mls_world_plain.specs.Faults.{number_of};
 ghost use Rattle.mls_model.specs.Journal.{list_in, entry_of};
 ghost use Rattle.mls_world_plain.specs.CallAnswers.{DeliversTo};
 ghost use Rattle.mls_world_plain.specs.CallParts.{is_advanced, HandsOver};
@@ -86,8 +89,22 @@ fn is_advanced(effect: &Effect) -> bool
     }
 }
 
+/// The refusal of bytes for which no memory was found: what the member refuses before anything grows comes first.
+#[tactic(auto, using(mls_member::proofs::EarlyChecks::early_refused))]
+fn early_refusal<S: Suite>(member: &Member<S>, bytes: &[u8], error: AllocError) -> WorldError
+    ensures is { number_of result ≢ 1
+        → verdict S.crypto member.now bytes.now ≡ Err (number_of result) }
+    ensures early { (n : ℕ) → early_member_checks member.now bytes.now ≡ Err n
+        → number_of result ≡ n }
+{
+    match member.check_early(bytes) {
+        Ok(()) => error.into(),
+        Err(refusal) => WorldError::Member(refusal),
+    }
+}
+
 /// Hands bytes to a member. Its journal has one more entry where it follows a commit.
-#[tactic(auto, using(crate::proofs::Changing::advanced, crate::proofs::Changing::stayed, crate::proofs::Changing::failed, crate::proofs::Changing::one_behind, crate::proofs::Changing::none_behind, crate::proofs::Changing::last_within))]
+#[tactic(auto, using(crate::proofs::Changing::advanced, crate::proofs::Changing::stayed, crate::proofs::Changing::failed, crate::proofs::Changing::one_behind, crate::proofs::Changing::none_behind, crate::proofs::Changing::last_within, mls_member::proofs::EarlyChecks::process_early))]
 fn hand_bytes<S: Suite>(
     alloc: Global,
     seat: &mut Seat<S>,
@@ -98,9 +115,17 @@ fn hand_bytes<S: Suite>(
     ensures does { HandsOver S.crypto journals.old seat.old journals.new seat.new bytes.now result }
     ensures more { AreMore journals.old journals.new }
     ensures within { seat.new.journal < length journals.new }
+    // What the member refuses before anything grows comes also when an allocation fails.
+    ensures outright { RefusesEarly (early_member_checks seat.old.member bytes.now) result }
 {
-    let entry = entry_of(alloc, &seat.member, bytes)?;
-    let next = journals.follow(seat.journal, entry)?;
+    let entry = match entry_of(alloc, &seat.member, bytes) {
+        Ok(entry) => entry,
+        Err(error) => return Err(early_refusal(&seat.member, bytes, error)),
+    };
+    let next = match journals.follow(seat.journal, entry) {
+        Ok(next) => next,
+        Err(error) => return Err(early_refusal(&seat.member, bytes, error)),
+    };
     match seat.member.process(bytes) {
         Ok(effect) => {
             if is_advanced(&effect) {
@@ -124,7 +149,8 @@ impl<S: Suite> PlainWorld<S> {
     #[tactic(auto, using(crate::proofs::Changing::no_member, crate::proofs::Stores::seat_missing, crate::proofs::Calling::stands_at, crate::proofs::EarlyChecks::delivery_nobody))]
     pub fn deliver(&mut self, member: usize, source: &Source) -> Result<Effect, WorldError>
         ensures does { DeliversTo S.crypto self.old self.new member source.now result }
-        // `NoSuchMember` (90) and `NoSuchMessage` (94) come also when an allocation fails.
+        // `NoSuchMember` (90), `NoSuchMessage` (94) and `Gone` (40), and of bytes that aren't the member's pending
+        // commit decoding's and `NotPublicMessage` (41) to `BadMembershipTag` (46), come also when an allocation fails.
         ensures outright { RefusesEarly (early_delivery_checks self.old member source.now) result }
     {
         let Some(seat) = self.seats.get_mut(member) else {

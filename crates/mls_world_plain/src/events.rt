@@ -18,8 +18,8 @@ impl<S: Suite> PlainWorld<S> {
     #[tactic(auto, unfolding(mls_model::specs::Run::answer))]
     pub fn answer(&mut self, event: &Event) -> Result<Reply, WorldError>
         ensures does { AnswersEvent S.crypto self.old self.new event.now result }
-        // What is decided before anything grows comes also when an allocation fails.
-        ensures outright { RefusesEarly (early_checks self.old event.now) result }
+        // What is decided before anything grows comes whatever memory there is.
+        ensures outright { RefusesEarly (early_checks S.crypto.number self.old event.now) result }
     {
         match event {
             Event::Candidate { identity, seed } => {
@@ -82,7 +82,7 @@ impl<S: Suite> PlainWorld<S> {
     pub fn step(&mut self, event: &Event) -> Result<Reply, AllocError>
         ensures does { DoesStep S.crypto event.now self.old self.new result }
         // What is decided before anything grows is the reply also when an allocation fails.
-        ensures refused { RepliesEarly event.now self.old self.new result }
+        ensures refused { RepliesEarly S.crypto.number event.now self.old self.new result }
     {
         match self.answer(event) {
             Ok(reply) => Ok(reply),

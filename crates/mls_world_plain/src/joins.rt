@@ -91,8 +91,10 @@ impl<S: Suite> PlainWorld<S> {
     /// candidate's own KeyPackage, the journal is the maker's with that commit, else it begins with the GroupInfo.
     pub fn join(&mut self, candidate: usize, source: &Source) -> Result<NewMember, WorldError>
         ensures does { JoinsBy S.crypto self.old self.new candidate source.now result }
-        // `NoSuchCandidate` (92), `CandidateSpent` (91) and `NoSuchMessage` (94) come also when an allocation fails.
-        ensures outright { RefusesEarly (early_join_checks self.old candidate source.now) result }
+        // `NoSuchCandidate` (92), `CandidateSpent` (91), `NoSuchMessage` (94), decoding's, `NotWelcome` (70) and
+        // `WrongSuite` (71) of the Welcome come also when an allocation fails.
+        ensures outright { RefusesEarly
+            (early_join_checks S.crypto.number self.old candidate source.now) result }
     {
         let alloc = self.alloc;
         let entrant = match self.unspent_candidate(candidate) {

@@ -1,5 +1,4 @@
 use Rattle.std.proofs.Common.{◌≡◌, List, Ok, sym, subst, ◌∙◌}
-use Rattle.std.proofs.lemmas.Result.{err_from_is_err_and}
 use Rattle.mls_leaf.specs.declared.extension.Extension.{Extension}
 use Rattle.mls_tree.proofs.RefusalLaws.{one_number, not_refused}
 use Rattle.mls_world_plain.specs.Sources.{allowed_list}

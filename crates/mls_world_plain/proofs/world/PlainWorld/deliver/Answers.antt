@@ -1,10 +1,9 @@
 use Rattle.std.proofs.Common.{Err, sym, subst, slice_set}
 use Rattle.std.proofs.lemmas.Result.{err_from_is_err_and}
-use Rattle.mls_tree.proofs.RefusalLaws.{one_number, not_refused}
-use Rattle.mls_model.specs.World.{World, bytes_of}
+use Rattle.mls_model.specs.World.{World}
 use Rattle.mls_world_plain.specs.StoredWorld.{world_of}
 use Rattle.mls_world_plain.proofs.Changing.{stored_moved}
-use Rattle.mls_world_plain.proofs.Delivering.{DoesDeliver, handed_over, not_lent, source_refused}
+use Rattle.mls_world_plain.proofs.Delivering.{DoesDeliver, handed_over, not_lent, source_unlent, source_refused}
 use Rattle.mls_world_plain.proofs.world.PlainWorld.deliver.Goals as goal
 
 pub returns-in_err-bytes-clause-does : goal.returns-in_err-bytes-clause-does
@@ -31,13 +30,12 @@ pub returns-in_err-bytes-clause-outright : goal.returns-in_err-bytes-clause-outr
 returns-in_err-bytes-clause-outright g c = λ n h.
     let p = err_from_is_err_and c.from_residual.result c.from_residual.ensures.1 in
     let old : World = world_of c.self.inside.entrants.items c.self.inside.seats.items c.self.inside.messages.items c.self.inside.made.items c.self.inside.journals in
-    rw (p.1, p.2) (one_number (bytes_of old c.args.source.now) _ (c.in_err-bytes.ensures old (sym c.deref.ensures.value)) n
-    (source_refused c.self.inside.entrants.items c.self.inside.seats.items c.self.inside.messages.items c.self.inside.made.items c.self.inside.journals c.args.self.now c.args.member c.in-Some.seat.now c.args.source.now n
-    c.self.view_is c.in-Some.ensures.item.3.0 c.in-Some.ensures.value h))
+    rw (p.1, p.2) (source_unlent c.self.inside.entrants.items c.self.inside.seats.items c.self.inside.messages.items c.self.inside.made.items c.self.inside.journals c.args.self.now c.args.member c.in-Some.seat.now c.args.source.now n
+    c.self.view_is c.in-Some.ensures.item.3.0 c.in-Some.ensures.value h _ (c.in_err-bytes.ensures old (sym c.deref.ensures.value)))
 
 pub returns-clause-outright : goal.returns-clause-outright
 returns-clause-outright g c = λ n h.
     let old : World = world_of c.self.inside.entrants.items c.self.inside.seats.items c.self.inside.messages.items c.self.inside.made.items c.self.inside.journals in
-    absurd (not_refused (bytes_of old c.args.source.now) _ (c.in_ok-bytes.ensures old (sym c.deref.ensures.value)) n
+    c.hand_bytes.ensures.outright n
     (source_refused c.self.inside.entrants.items c.self.inside.seats.items c.self.inside.messages.items c.self.inside.made.items c.self.inside.journals c.args.self.now c.args.member c.in-Some.seat.now c.args.source.now n
-    c.self.view_is c.in-Some.ensures.item.3.0 c.in-Some.ensures.value h))
+    c.self.view_is c.in-Some.ensures.item.3.0 c.in-Some.ensures.value h c.in_ok-bytes.bytes.now (c.in_ok-bytes.ensures old (sym c.deref.ensures.value)))

@@ -3,10 +3,9 @@ use Rattle.mls_model.specs.declared.origin.Origin.TheVariants as from
 use Rattle.mls_model.specs.Candidate.{Candidate}
 use Rattle.mls_model.specs.Join.{JoinedMember, join_verdict}
 use Rattle.mls_model.specs.Journal.{new_journal}
-use Rattle.mls_tree.proofs.RefusalLaws.{one_number, not_refused}
-use Rattle.mls_model.specs.World.{Entrant, World, bytes_of, commit_for_joiner, with_new_member}
+use Rattle.mls_model.specs.World.{Entrant, World, commit_for_joiner, with_new_member}
 use Rattle.mls_world_plain.specs.CallParts.{commit_made_at, IsThere}
-use Rattle.mls_world_plain.proofs.EarlyChecks.{join_nobody, join_refused as no_bytes}
+use Rattle.mls_world_plain.proofs.EarlyChecks.{join_nobody, join_unlent, join_refused as refused_early}
 use Rattle.mls_world_plain.proofs.Entering.{join_begun, join_absent, join_unread, join_refused, entrant_within}
 use Rattle.mls_world_plain.proofs.Welcomed.{join_made}
 use Rattle.mls_world_plain.proofs.world.PlainWorld.join.Goals as goal
@@ -56,22 +55,22 @@ returns-in_ok-member-in-None-clause-does g c =
     (λ x q. subst (λ (l : List ℕ). c.begin_member.new.self ≡ with_new_member w c.args.candidate x (record { member = j.member; journal = new_journal (from.GroupInfo l) })) c.from_vec.ensures (c.in_ok-member-in-None.ensures.ok x q))
 
 pub returns-in-Err-clause-outright : goal.returns-in-Err-clause-outright
-returns-in-Err-clause-outright g c = λ n h. join_nobody c.args.self.now c.args.candidate c.args.source.now _ n c.in-Err.ensures h
+returns-in-Err-clause-outright g c = λ n h. join_nobody g.S.Suite.crypto.number c.args.self.now c.args.candidate c.args.source.now _ n c.in-Err.ensures h
 
 pub returns-in-Err-bytes_of-clause-outright : goal.returns-in-Err-bytes_of-clause-outright
-returns-in-Err-bytes_of-clause-outright g c = λ n h. one_number (bytes_of c.args.self.now c.args.source.now) _ c.in-Err-bytes_of.ensures n (no_bytes c.args.self.now c.args.candidate c.args.source.now c.in-Ok.entrant.now n c.in-Ok.ensures h)
+returns-in-Err-bytes_of-clause-outright g c = λ n h. join_unlent g.S.Suite.crypto.number c.args.self.now c.args.candidate c.args.source.now c.in-Ok.entrant.now n c.in-Ok.ensures h _ c.in-Err-bytes_of.ensures
 
 pub returns-in-Err-join-clause-outright : goal.returns-in-Err-join-clause-outright
-returns-in-Err-join-clause-outright g c = λ n h. absurd (not_refused (bytes_of c.args.self.now c.args.source.now) _ c.in-Ok-bytes_of.ensures n (no_bytes c.args.self.now c.args.candidate c.args.source.now c.in-Ok.entrant.now n c.in-Ok.ensures h))
+returns-in-Err-join-clause-outright g c = λ n h. c.in-Err-join.ensures.outright n (refused_early g.S.Suite.crypto.number c.args.self.now c.args.candidate c.args.source.now c.in-Ok.entrant.now n c.in-Ok.ensures h c.in-Ok-bytes_of.bytes.now c.in-Ok-bytes_of.ensures)
 
 pub returns-in_err-member-in-Some-clause-outright : goal.returns-in_err-member-in-Some-clause-outright
-returns-in_err-member-in-Some-clause-outright g c = λ n h. absurd (not_refused (bytes_of c.args.self.now c.args.source.now) _ c.in-Ok-bytes_of.ensures n (no_bytes c.args.self.now c.args.candidate c.args.source.now c.in-Ok.entrant.now n c.in-Ok.ensures h))
+returns-in_err-member-in-Some-clause-outright g c = λ n h. absurd (c.in-Ok-join.ensures.outright n (refused_early g.S.Suite.crypto.number c.args.self.now c.args.candidate c.args.source.now c.in-Ok.entrant.now n c.in-Ok.ensures h c.in-Ok-bytes_of.bytes.now c.in-Ok-bytes_of.ensures))
 
 pub returns-in_err-member-in-None-clause-outright : goal.returns-in_err-member-in-None-clause-outright
-returns-in_err-member-in-None-clause-outright g c = λ n h. absurd (not_refused (bytes_of c.args.self.now c.args.source.now) _ c.in-Ok-bytes_of.ensures n (no_bytes c.args.self.now c.args.candidate c.args.source.now c.in-Ok.entrant.now n c.in-Ok.ensures h))
+returns-in_err-member-in-None-clause-outright g c = λ n h. absurd (c.in-Ok-join.ensures.outright n (refused_early g.S.Suite.crypto.number c.args.self.now c.args.candidate c.args.source.now c.in-Ok.entrant.now n c.in-Ok.ensures h c.in-Ok-bytes_of.bytes.now c.in-Ok-bytes_of.ensures))
 
 pub returns-in_ok-member-in-Some-clause-outright : goal.returns-in_ok-member-in-Some-clause-outright
-returns-in_ok-member-in-Some-clause-outright g c = λ n h. not_refused (bytes_of c.args.self.now c.args.source.now) _ c.in-Ok-bytes_of.ensures n (no_bytes c.args.self.now c.args.candidate c.args.source.now c.in-Ok.entrant.now n c.in-Ok.ensures h)
+returns-in_ok-member-in-Some-clause-outright g c = λ n h. c.in-Ok-join.ensures.outright n (refused_early g.S.Suite.crypto.number c.args.self.now c.args.candidate c.args.source.now c.in-Ok.entrant.now n c.in-Ok.ensures h c.in-Ok-bytes_of.bytes.now c.in-Ok-bytes_of.ensures)
 
 pub returns-in_ok-member-in-None-clause-outright : goal.returns-in_ok-member-in-None-clause-outright
-returns-in_ok-member-in-None-clause-outright g c = λ n h. not_refused (bytes_of c.args.self.now c.args.source.now) _ c.in-Ok-bytes_of.ensures n (no_bytes c.args.self.now c.args.candidate c.args.source.now c.in-Ok.entrant.now n c.in-Ok.ensures h)
+returns-in_ok-member-in-None-clause-outright g c = λ n h. c.in-Ok-join.ensures.outright n (refused_early g.S.Suite.crypto.number c.args.self.now c.args.candidate c.args.source.now c.in-Ok.entrant.now n c.in-Ok.ensures h c.in-Ok-bytes_of.bytes.now c.in-Ok-bytes_of.ensures)

@@ -10,7 +10,7 @@ pub returns-in-1-clause-refused : goal.returns-in-1-clause-refused
 returns-in-1-clause-refused g c = λ n h.
     let a = c.in-Err.ensures.outright n h in
     let one : n ≡ 1 = omega (arith, a) in
-    absurd (never_memory c.args.self.now c.args.event.now (subst (λ (i : ℕ). early_checks c.args.self.now c.args.event.now ≡ Err i) one h))
+    absurd (never_memory g.S.Suite.crypto.number c.args.self.now c.args.event.now (subst (λ (i : ℕ). early_checks g.S.Suite.crypto.number c.args.self.now c.args.event.now ≡ Err i) one h))
 
 pub returns-in_default-clause-refused : goal.returns-in_default-clause-refused
 returns-in_default-clause-refused g c = λ n h.
