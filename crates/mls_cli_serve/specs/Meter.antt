@@ -3,6 +3,7 @@ use Rattle.std.specs.Prelude.{◌≡◌, ◌⊎◌, ◌==◌, ◌||◌, ◌-◌,
 use Rattle.std.specs.Fmt.{decimal}
 use Rattle.std.specs.Io.KnownBytes.{Appends}
 use Rattle.std.specs.Time.{instant_nanos}
+use Rattle.mls_cli_text.specs.InputOutput.{AppendsPart, out_failed, out_writer}
 use Rattle.std.specs.declared.time.Instant.{Instant}
 use Rattle.mls_cli_serve.specs.declared.meter.Meter.{Meter}
 use Rattle.mls_cli_serve.specs.declared.meter.Pace.{Pace}
@@ -16,14 +17,22 @@ pace_of Always is_terminal = Hundredths
 pace_of OnTerminal true = Seconds
 pace_of OnTerminal false = Never
 
+-- a text and a number
+abbrev pub numbered : List ℕ → ℕ → List ℕ
+numbered text n = text ++ decimal n
+
 abbrev pub progress_line : ℕ → ℕ → List ℕ
 progress_line done all =
-    codes "mls: " ++ (decimal done ++ (codes " of " ++ (decimal all ++ codes " events\n")))
+    numbered (codes "mls: ") done ++ (numbered (codes " of ") all ++ codes " events\n")
 
 -- ---- the parts of a meter
 
 abbrev pub meter_writer : {C W : Type 0} → Meter C W → W
-meter_writer m = m.writer
+meter_writer m = out_writer m.writer
+
+-- whether a write has failed
+abbrev pub meter_failed : {C W : Type 0} → Meter C W → Bool
+meter_failed m = out_failed m.writer
 
 abbrev pub meter_pace : {C W : Type 0} → Meter C W → Pace
 meter_pace m = m.pace
@@ -43,13 +52,27 @@ is_due None now = false
 
 -- ---- what a report changes, that so many events of all are done
 
--- the line is written; or a write failed, and no line is written from then on
+-- the line is written
+abbrev pub WritesLine : {C W : Type 0} → (W → Option (List ℕ)) → ℕ → ℕ → Meter C W → Meter C W →
+    Type 0
+WritesLine contents done all old new =
+    (new.pace ≡ old.pace) × (meter_failed new ≡ meter_failed old)
+    × Appends (contents (meter_writer old)) (contents (meter_writer new)) (progress_line done all)
+
+-- a write failed, a beginning of the line is written and not the whole, and no line is from then on
+abbrev pub FailsLine : {C W : Type 0} → (W → Option (List ℕ)) → ℕ → ℕ → Meter C W → Meter C W →
+    Type 0
+FailsLine contents done all old new =
+    (new.pace ≡ Never) × (meter_failed new ≡ true)
+    × AppendsPart (contents (meter_writer old)) (contents (meter_writer new))
+    (progress_line done all)
+
+-- the line is written, or a write failed
 abbrev pub SaysLine : {C W : Type 0} → (W → Option (List ℕ)) → ℕ → ℕ → Meter C W → Meter C W →
     Type 0
 SaysLine contents done all old new =
-    ((new.pace ≡ old.pace) × (new.last ≡ old.last)
-    × Appends (contents old.writer) (contents new.writer) (progress_line done all))
-    ⊎ (new.pace ≡ Never)
+    (new.last ≡ old.last)
+    × (WritesLine contents done all old new ⊎ FailsLine contents done all old new)
 
 -- it is where it is due, and else nothing changes
 abbrev pub SaysIf : {C W : Type 0} → (W → Option (List ℕ)) → Bool → ℕ → ℕ → Meter C W → Meter C W →

@@ -1,10 +1,14 @@
 //! What is said of how far a replay has come.
 
-ghost use Rattle.std.specs.Prelude.{◌≡◌};
-ghost use Rattle.mls_cli_serve.specs.Meter.{SaysAtPace, SaysIf, SaysInTime, SaysLine, is_due, is_hundredth, meter_pace, meter_writer, pace_of};
+ghost use Rattle.std.specs.Prelude.{◌≡◌, false, IfErr};
+ghost use Rattle.mls_cli_text.specs.InputOutput.{out_failed, write_failed};
+ghost use Rattle.mls_cli_serve.specs.Meter.{SaysAtPace, SaysIf, SaysInTime, SaysLine, is_due, is_hundredth, meter_failed, meter_pace, meter_writer, numbered, pace_of, progress_line};
+ghost use Rattle.mls_cli_serve.specs.Saying.{BeginsError, WritesError};
 
 use crate::tasks::ProgressChoice;
+use itoa::Buffer;
 use mls_cli_replay::Progress;
+use mls_cli_text::{Fault, Out, Output};
 use std::io::Write;
 use std::time::{Clock, Instant};
 
@@ -41,7 +45,7 @@ pub fn pace_of(choice: ProgressChoice, is_terminal: bool) -> Pace
 /// A writer that says how far a replay is.
 #[derive(Drop)]
 pub struct Meter<'a, C, W> {
-    writer: W,
+    writer: Out<W>,
     clock: &'a C,
     pace: Pace,
     /// When it was said last, or the start, if the clock could be read.
@@ -76,14 +80,39 @@ fn is_hundredth(done: usize, all: usize) -> bool
     done == all || done % (all / 100).max(1) == 0
 }
 
+/// Writes a text and a number. It takes no memory.
+fn put_numbered<W: Write>(text: &[u8], number: usize, out: &mut Out<W>) -> Result<(), Fault>
+    ensures whole { WritesError W.contents out.old out.new (numbered text.now number) result }
+    ensures part { BeginsError W.contents out.old out.new (numbered text.now number) result }
+    ensures fault { out_failed out.new ≡ write_failed (out_failed out.old) result }
+    ensures written { IfErr result (λ e. e ≡ Fault.Write) }
+{
+    let mut digits = Buffer::new();
+    out.put(text)?;
+    out.put(digits.format(number).as_bytes())
+}
+
+/// Writes how far the replay is. It takes no memory.
+fn put_line<W: Write>(done: usize, all: usize, out: &mut Out<W>) -> Result<(), Fault>
+    ensures whole { WritesError W.contents out.old out.new (progress_line done all) result }
+    ensures part { BeginsError W.contents out.old out.new (progress_line done all) result }
+    ensures fault { out_failed out.new ≡ write_failed (out_failed out.old) result }
+    ensures written { IfErr result (λ e. e ≡ Fault.Write) }
+{
+    put_numbered(b"mls: ", done, out)?;
+    put_numbered(b" of ", all, out)?;
+    out.put(b" events\n")
+}
+
 impl<'a, C: Clock, W: Write> Meter<'a, C, W> {
     /// A meter of this pace, which begins now.
     pub fn new(writer: W, clock: &'a C, pace: Pace) -> Meter<'a, C, W>
         ensures writer { meter_writer result ≡ writer }
+        ensures failed { meter_failed result ≡ false }
         ensures pace { meter_pace result ≡ pace }
     {
         Meter {
-            writer,
+            writer: Out::new(writer),
             clock,
             pace,
             last: read_clock(clock),
@@ -94,7 +123,7 @@ impl<'a, C: Clock, W: Write> Meter<'a, C, W> {
     fn say(&mut self, done: usize, all: usize)
         ensures { SaysLine W.contents done all self.old self.new }
     {
-        if write!(self.writer, "mls: {done} of {all} events\n").is_err() {
+        if put_line(done, all, &mut self.writer).is_err() {
             self.pace = Pace::Never;
         }
     }
