@@ -10,7 +10,7 @@ ghost use Rattle.mls_candidate.specs.Leaves.{IsLeafOf, IsPublicKey, Renews, Rene
 
 use mls_kdf::{Secret, Seed};
 use mls_leaf::{
-    Bytes, Capabilities, Credential, Items, LeafNode, LeafSource, bytes_or_out_of_memory,
+    Bytes, Capabilities, Credential, LeafNode, LeafSource, Numbers, bytes_or_out_of_memory,
 };
 use mls_suite::{KeyPair, OutOfMemory, Suite, sign_with_label};
 use mls_treekem::leaf_seed;
@@ -34,10 +34,10 @@ pub fn leaf_key<S: Suite>(alloc: Global, seed: &Seed) -> Result<Secret, OutOfMem
 }
 
 /// One number.
-fn one_number(alloc: Global, number: u16) -> Result<Items<u16>, OutOfMemory>
+fn one_number(alloc: Global, number: u16) -> Result<Numbers, OutOfMemory>
     ensures { IfOk result (λ v. v ≡ number ∷ []) }
 {
-    Ok(Items::from_vec(vec![in alloc; number]?))
+    Ok(Numbers::from_slice(alloc, &[number])?)
 }
 
 /// What each leaf that is made can handle: version 1, the suite and credential 1 (RFC 9420, 7.2).
@@ -48,8 +48,8 @@ fn made_capabilities<S: Suite>(alloc: Global) -> Result<Capabilities, OutOfMemor
     Ok(Capabilities {
         versions: one_number(alloc, 1)?,
         cipher_suites: one_number(alloc, S::NUMBER)?,
-        extensions: Items::from_vec(Vec::new(alloc)),
-        proposals: Items::from_vec(Vec::new(alloc)),
+        extensions: Numbers::empty(),
+        proposals: Numbers::empty(),
         credentials: one_number(alloc, 1)?,
     })
 }

@@ -7,7 +7,7 @@ ghost use Rattle.mls_cli_text.specs.TextLaws.{line_nonempty};
 ghost use Rattle.mls_cli_text.specs.Text.{entries_of, entry, entry_of, extension_text, four_digits, indexes_text, item_text, number_with_name, numbers_text, or_dash, line_text, prefix_text, refusal_text, shown_by, shown_text, with_commas, with_more_indexes};
 
 use crate::printing::Printed;
-use mls_leaf::{Bytes, Items};
+use mls_leaf::{Bytes, Numbers};
 use mls_wire::refusal_name;
 use std::alloc::{AllocError, Global};
 
@@ -17,7 +17,7 @@ pub enum Field {
     /// Lower-case hex digits, `-` where there are no bytes.
     Bytes(Bytes),
     /// Four hex digits each, joined by commas, `-` where there are none.
-    Numbers(Items<u16>),
+    Numbers(Numbers),
     /// Four hex digits.
     Digits(u16),
     /// A number in decimal.

@@ -3,7 +3,7 @@
 use crate::rows::{gives, text_of};
 use mls_cli_json_page::json_page;
 use mls_cli_text::{Ending, Field, Line, Page, Prefix, line_of, line_with};
-use mls_leaf::{Bytes, Items};
+use mls_leaf::{Bytes, Numbers};
 use std::alloc::{AllocError, Global};
 use std::process::Abort;
 use std::test::Fail;
@@ -26,9 +26,7 @@ enum Value {
 fn field_of(alloc: Global, value: &Value) -> Result<Field, AllocError> {
     match value {
         Value::Bytes(bytes) => Ok(Field::Bytes(Bytes::from_slice(alloc, bytes)?)),
-        Value::Numbers(numbers) => Ok(Field::Numbers(Items::from_vec(Vec::from_slice(
-            alloc, numbers,
-        )?))),
+        Value::Numbers(numbers) => Ok(Field::Numbers(Numbers::from_slice(alloc, numbers)?)),
         Value::Digits(number) => Ok(Field::Digits(*number)),
         Value::Number(number) => Ok(Field::Number(*number)),
         Value::Indexes(indexes) => Ok(Field::Indexes(Vec::from_slice(alloc, indexes)?)),

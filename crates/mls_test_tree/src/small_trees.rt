@@ -4,7 +4,7 @@
 //! each end.
 
 use mls_kdf::{Secret, derive_secret};
-use mls_leaf::{Bytes, Capabilities, Credential, Items, LeafNode, LeafSource};
+use mls_leaf::{Bytes, Capabilities, Credential, LeafNode, LeafSource, Numbers};
 use mls_suite::{Glass, KeyPair, Suite};
 use mls_tree::PublicTree;
 use mls_treekem::{PathSecrets, PrivatePath, TreeKemError, seal_path};
@@ -20,10 +20,6 @@ fn empty(alloc: Global) -> Bytes {
     Bytes::from_vec(Vec::new(alloc))
 }
 
-fn numbers(alloc: Global) -> Items<u16> {
-    Items::from_vec(Vec::new(alloc))
-}
-
 /// A leaf with this encryption key.
 pub(crate) fn leaf(alloc: Global, key: Vec<u8>) -> LeafNode {
     LeafNode {
@@ -33,11 +29,11 @@ pub(crate) fn leaf(alloc: Global, key: Vec<u8>) -> LeafNode {
             identity: empty(alloc),
         },
         capabilities: Capabilities {
-            versions: numbers(alloc),
-            cipher_suites: numbers(alloc),
-            extensions: numbers(alloc),
-            proposals: numbers(alloc),
-            credentials: numbers(alloc),
+            versions: Numbers::empty(),
+            cipher_suites: Numbers::empty(),
+            extensions: Numbers::empty(),
+            proposals: Numbers::empty(),
+            credentials: Numbers::empty(),
         },
         source: LeafSource::Update,
         signature: empty(alloc),

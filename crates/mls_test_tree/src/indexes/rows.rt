@@ -4,17 +4,15 @@
 ghost use Rattle.std.specs.Prelude.{◌≡◌, nat_eq, true};
 ghost use Rattle.mls_tree_model.specs.Sets.{is_distinct};
 
-use mls_leaf::{Bytes, Capabilities, Credential, Items, LeafNode, LeafSource, Node, ParentNode};
+use mls_leaf::{
+    Bytes, Capabilities, Credential, Items, LeafNode, LeafSource, Node, Numbers, ParentNode,
+};
 use mls_tree_index::{Index, KeyKind};
 use mls_tree_slot::Slot;
 use std::alloc::{AllocError, Global};
 
 fn byte(alloc: Global, b: u8) -> Result<Bytes, AllocError> {
     Ok(Bytes::from_slice(alloc, &[b])?)
-}
-
-fn numbers(alloc: Global) -> Items<u16> {
-    Items::from_vec(Vec::new(alloc))
 }
 
 /// A leaf with these bytes as its keys.
@@ -26,11 +24,11 @@ pub(crate) fn leaf(alloc: Global, key: u8, signature_key: u8) -> Result<Slot, Al
             identity: byte(alloc, key)?,
         },
         capabilities: Capabilities {
-            versions: numbers(alloc),
-            cipher_suites: numbers(alloc),
-            extensions: numbers(alloc),
-            proposals: numbers(alloc),
-            credentials: numbers(alloc),
+            versions: Numbers::empty(),
+            cipher_suites: Numbers::empty(),
+            extensions: Numbers::empty(),
+            proposals: Numbers::empty(),
+            credentials: Numbers::empty(),
         },
         source: LeafSource::Update,
         signature: byte(alloc, key)?,

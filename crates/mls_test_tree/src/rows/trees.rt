@@ -1,7 +1,9 @@
 //! Members and small trees, for the rows of tests. They promise nothing: what a test expects is run, and a proof that
 //! carried the clauses of each call would take minutes.
 
-use mls_leaf::{Bytes, Capabilities, Credential, Items, LeafNode, LeafSource, Node, ParentNode};
+use mls_leaf::{
+    Bytes, Capabilities, Credential, Items, LeafNode, LeafSource, Node, Numbers, ParentNode,
+};
 use mls_tree::{PublicTree, TreeError};
 use mls_tree_slot::Slot;
 use std::alloc::{AllocError, Global};
@@ -10,10 +12,6 @@ fn byte(alloc: Global, b: u8) -> Result<Bytes, AllocError> {
     let mut bytes = Vec::new(alloc);
     bytes.push(b)?;
     Ok(Bytes::from_vec(bytes))
-}
-
-fn numbers(alloc: Global) -> Items<u16> {
-    Items::from_vec(Vec::new(alloc))
 }
 
 /// A leaf with this byte as its encryption key.
@@ -25,11 +23,11 @@ pub(crate) fn leaf(alloc: Global, key: u8, source: LeafSource) -> Result<LeafNod
             identity: byte(alloc, key)?,
         },
         capabilities: Capabilities {
-            versions: numbers(alloc),
-            cipher_suites: numbers(alloc),
-            extensions: numbers(alloc),
-            proposals: numbers(alloc),
-            credentials: numbers(alloc),
+            versions: Numbers::empty(),
+            cipher_suites: Numbers::empty(),
+            extensions: Numbers::empty(),
+            proposals: Numbers::empty(),
+            credentials: Numbers::empty(),
         },
         source,
         signature: byte(alloc, key)?,
