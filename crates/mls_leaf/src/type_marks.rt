@@ -1,6 +1,6 @@
 //! Marks of types for private use, which take no memory.
 
-ghost use Rattle.std.specs.Prelude.{◌≡◌, true, IfOk};
+ghost use Rattle.std.specs.Prelude.{◌≡◌, true, false, IfOk, IfErr};
 ghost use Rattle.mls_leaf.specs.Faults.{ReadsFrontNow};
 ghost use Rattle.mls_leaf.specs.TypeMarks.{is_unmarked, with_mark, AreClear, type_where};
 
@@ -20,10 +20,11 @@ pub(crate) fn no_marks() -> TypeMarks
     [false; 4096]
 }
 
-/// Marks a type for private use that has no mark, and answers whether it is one.
+/// Marks a type for private use that has no mark, and answers whether it is one. Where it isn't the marks stay.
 pub(crate) fn mark_type(marks: &mut TypeMarks, kind: u16) -> bool
     ensures new { result ≡ is_unmarked marks.old kind }
     ensures marked { result ≡ true → marks.new ≡ with_mark marks.old kind }
+    ensures kept { result ≡ false → marks.new ≡ marks.old }
 {
     if kind < FIRST_PRIVATE_TYPE {
         return false;
@@ -36,10 +37,12 @@ pub(crate) fn mark_type(marks: &mut TypeMarks, kind: u16) -> bool
     true
 }
 
-/// Reads the type of an extension, which has to be for private use and without a mark, and marks it.
+/// Reads the type of an extension, which has to be for private use and without a mark, and marks it. Where it isn't the
+/// marks stay.
 pub(crate) fn read_type(reader: &mut Reader<'_>, marks: &mut TypeMarks) -> Result<u16, LeafError>
     ensures read { ReadsFrontNow (type_where (is_unmarked marks.old)) reader.old result reader.new }
     ensures marked { IfOk result (λ kind. marks.new ≡ with_mark marks.old kind) }
+    ensures kept { IfErr result (λ _. marks.new ≡ marks.old) }
 {
     let kind = reader.u16()?;
     if !mark_type(marks, kind) {
