@@ -43,47 +43,49 @@ fn extended_context_lengths(rt: HostRuntime) -> Result<(), Fail> {
     )
 }
 
+const CONTEXTS: &[(&str, u8)] = &[
+    (GROUP_CONTEXT, 0),
+    (EXTENDED_CONTEXT, 0),
+    // with half a type, a type of another range, and one type twice
+    ("0001f0010167000000000000000000000100", 2),
+    ("0001f001016700000000000000000000050003026869", 14),
+    ("0001f00101670000000000000000000006f00100f00100", 14),
+    ("0002", 7),
+];
+
 #[test]
 fn contexts(rt: HostRuntime) -> Result<(), Fail> {
-    let rows = [
-        (GROUP_CONTEXT, 0),
-        (EXTENDED_CONTEXT, 0),
-        // with half a type, a type of another range, and one type twice
-        ("0001f0010167000000000000000000000100", 2),
-        ("0001f001016700000000000000000000050003026869", 14),
-        ("0001f00101670000000000000000000006f00100f00100", 14),
-        ("0002", 7),
-    ];
-    answers::<GroupContext>(&rt, rt.alloc(), &rows)
+    answers::<GroupContext>(&rt, rt.alloc(), CONTEXTS)
 }
+
+const INFOS: &[(&str, u8)] = &[
+    (GROUP_INFO, 0),
+    (EXTENDED_INFO, 0),
+    // with a tree
+    (
+        "0001f0010167000000000000000020111111111111111111111111111111111111111111111111111111111111111100001f00021c1b010101bb01cc000103626f6202000102f0010000020001020001dd01cc0000000001dd",
+        0,
+    ),
+    // another extension
+    (
+        "0001f00101670000000000000000201111111111111111111111111111111111111111111111111111111111111111000005000302010001cc0000000001dd",
+        14,
+    ),
+    // a second tree
+    (
+        "0001f0010167000000000000000020111111111111111111111111111111111111111111111111111111111111111100000a0002020100000202010001cc0000000001dd",
+        14,
+    ),
+    // a tree with more behind it
+    (
+        "0001f0010167000000000000000020111111111111111111111111111111111111111111111111111111111111111100000600020301000001cc0000000001dd",
+        3,
+    ),
+];
 
 #[test]
 fn infos(rt: HostRuntime) -> Result<(), Fail> {
-    let rows = [
-        (GROUP_INFO, 0),
-        (EXTENDED_INFO, 0),
-        // with a tree
-        (
-            "0001f0010167000000000000000020111111111111111111111111111111111111111111111111111111111111111100001f00021c1b010101bb01cc000103626f6202000102f0010000020001020001dd01cc0000000001dd",
-            0,
-        ),
-        // another extension
-        (
-            "0001f00101670000000000000000201111111111111111111111111111111111111111111111111111111111111111000005000302010001cc0000000001dd",
-            14,
-        ),
-        // a second tree
-        (
-            "0001f0010167000000000000000020111111111111111111111111111111111111111111111111111111111111111100000a0002020100000202010001cc0000000001dd",
-            14,
-        ),
-        // a tree with more behind it
-        (
-            "0001f0010167000000000000000020111111111111111111111111111111111111111111111111111111111111111100000600020301000001cc0000000001dd",
-            3,
-        ),
-    ];
-    answers::<GroupInfo>(&rt, rt.alloc(), &rows)
+    answers::<GroupInfo>(&rt, rt.alloc(), INFOS)
 }
 
 fn signed_of_info(alloc: Global, digits: &str) -> Result<Vec<u8>, LeafError> {
@@ -100,18 +102,20 @@ fn signed_infos(rt: HostRuntime) -> Result<(), Fail> {
     spells(&rt, rt.alloc(), extended, EXTENDED_INFO_TBS)
 }
 
+const WELCOMES: &[(&str, u8)] = &[
+    ("f0010000", 0),
+    ("f0010801aa01bb01cc01dd", 2),
+    ("f0010601aa01bb01cc01dd", 0),
+];
+
 #[test]
 fn welcomes(rt: HostRuntime) -> Result<(), Fail> {
-    let rows = [
-        ("f0010000", 0),
-        ("f0010801aa01bb01cc01dd", 2),
-        ("f0010601aa01bb01cc01dd", 0),
-    ];
-    answers::<Welcome>(&rt, rt.alloc(), &rows)
+    answers::<Welcome>(&rt, rt.alloc(), WELCOMES)
 }
+
+const GROUP_SECRETS: &[(&str, u8)] = &[("01aa0000", 0), ("01aa0101bb00", 0), ("01aa02", 7)];
 
 #[test]
 fn group_secrets(rt: HostRuntime) -> Result<(), Fail> {
-    let rows = [("01aa0000", 0), ("01aa0101bb00", 0), ("01aa02", 7)];
-    answers::<GroupSecrets>(&rt, rt.alloc(), &rows)
+    answers::<GroupSecrets>(&rt, rt.alloc(), GROUP_SECRETS)
 }

@@ -70,21 +70,22 @@ fn key_package_references(rt: HostRuntime) -> Result<(), Fail> {
     holds(&rt, is_named(rt.alloc(), KEY_PACKAGE, reference), reference)
 }
 
+const KEY_PACKAGES: &[(&str, u8)] = &[
+    (KEY_PACKAGE, 0),
+    // cut
+    (
+        "0001f00101aa01bb01cc000103626f6202000102f0010000020001010000000000000000ffffffffffffffff0001dd0001",
+        2,
+    ),
+    // another credential
+    ("0001f00101aa01bb01cc0002", 11),
+    // another version
+    ("0002f00101aa01bb01cc0002", 7),
+];
+
 #[test]
 fn key_packages_refused(rt: HostRuntime) -> Result<(), Fail> {
-    let rows = [
-        (KEY_PACKAGE, 0),
-        // cut
-        (
-            "0001f00101aa01bb01cc000103626f6202000102f0010000020001010000000000000000ffffffffffffffff0001dd0001",
-            2,
-        ),
-        // another credential
-        ("0001f00101aa01bb01cc0002", 11),
-        // another version
-        ("0002f00101aa01bb01cc0002", 7),
-    ];
-    answers::<KeyPackage>(&rt, rt.alloc(), &rows)
+    answers::<KeyPackage>(&rt, rt.alloc(), KEY_PACKAGES)
 }
 
 /// Whether the leaves that these digits spell are equal.
@@ -121,10 +122,11 @@ fn extensions(rt: HostRuntime) -> Result<(), Fail> {
     holds(&rt, found, "type 3, the data aabb")
 }
 
+const EXTENSIONS: &[(&str, u8)] = &[("000302aabb", 0), ("000302aa", 2)];
+
 #[test]
 fn extensions_refused(rt: HostRuntime) -> Result<(), Fail> {
-    let rows = [("000302aabb", 0), ("000302aa", 2)];
-    answers::<Extension>(&rt, rt.alloc(), &rows)
+    answers::<Extension>(&rt, rt.alloc(), EXTENSIONS)
 }
 
 fn is_removal(alloc: Global, digits: &str) -> Result<bool, LeafError> {
@@ -141,21 +143,22 @@ fn proposals(rt: HostRuntime) -> Result<(), Fail> {
     )
 }
 
+const PROPOSALS: &[(&str, u8)] = &[
+    ("000300000005", 0),
+    ("0003000000", 2),
+    ("0004", 12),
+    ("0007", 2),
+    // the extensions of a group: one, none, a type of another range, one type twice, data that run over the list
+    ("000705f001026869", 0),
+    ("000700", 0),
+    ("0007050003026869", 14),
+    ("000706f00100f00100", 14),
+    ("000704f00105aa", 2),
+];
+
 #[test]
 fn proposals_refused(rt: HostRuntime) -> Result<(), Fail> {
-    let rows = [
-        ("000300000005", 0),
-        ("0003000000", 2),
-        ("0004", 12),
-        ("0007", 2),
-        // the extensions of a group: one, none, a type of another range, one type twice, data that run over the list
-        ("000705f001026869", 0),
-        ("000700", 0),
-        ("0007050003026869", 14),
-        ("000706f00100f00100", 14),
-        ("000704f00105aa", 2),
-    ];
-    answers::<Proposal>(&rt, rt.alloc(), &rows)
+    answers::<Proposal>(&rt, rt.alloc(), PROPOSALS)
 }
 
 fn is_spelled_out(error: LeafError, name: &str) -> Result<bool, LeafError> {
@@ -223,10 +226,11 @@ fn falling_parents(rt: HostRuntime) -> Result<(), Fail> {
     holds(&rt, is_not_rising(rt.alloc()), "leaves 2 and 1")
 }
 
+const PARENTS: &[(&str, u8)] = &[("01aa00080000000200000001", 13), ("01aa00050000000100", 2)];
+
 #[test]
 fn parents_refused(rt: HostRuntime) -> Result<(), Fail> {
-    let rows = [("01aa00080000000200000001", 13), ("01aa00050000000100", 2)];
-    answers::<ParentNode>(&rt, rt.alloc(), &rows)
+    answers::<ParentNode>(&rt, rt.alloc(), PARENTS)
 }
 
 #[test]

@@ -12,64 +12,67 @@ const KEY_PACKAGE_MESSAGE: &str =
 /// The removal of leaf 5, sent by leaf 2 in the group "g" at epoch 0.
 const PUBLIC_MESSAGE: &str = "00010001016700000000000000000100000002000200030000000501aa01bb";
 
+const MESSAGES: &[(&str, u8)] = &[
+    (KEY_PACKAGE_MESSAGE, 0),
+    (PUBLIC_MESSAGE, 0),
+    // an empty welcome
+    ("00010003f0010000", 0),
+];
+
 #[test]
 fn messages(rt: HostRuntime) -> Result<(), Fail> {
     one_spelling::<MlsMessage>();
     fault_numbers::<MlsMessage>();
-    let rows = [
-        (KEY_PACKAGE_MESSAGE, 0),
-        (PUBLIC_MESSAGE, 0),
-        // an empty welcome
-        ("00010003f0010000", 0),
-    ];
-    answers::<MlsMessage>(&rt, rt.alloc(), &rows)
+    answers::<MlsMessage>(&rt, rt.alloc(), MESSAGES)
 }
+
+const REFUSED: &[(&str, u8)] = &[
+    // cut
+    (
+        "000100050001f00101aa01bb01cc000103626f6202000102f0010000020001010000000000000000ffffffffffffffff0001dd0001",
+        2,
+    ),
+    // longer
+    (
+        "000100050001f00101aa01bb01cc000103626f6202000102f0010000020001010000000000000000ffffffffffffffff0001dd0001ee00",
+        3,
+    ),
+    // another version
+    (
+        "000100050002f00101aa01bb01cc000103626f6202000102f0010000020001010000000000000000ffffffffffffffff0001dd0001ee",
+        7,
+    ),
+    // another credential
+    (
+        "000100050001f00101aa01bb01cc000203626f6202000102f0010000020001010000000000000000ffffffffffffffff0001dd0001ee",
+        11,
+    ),
+    // another sender
+    (
+        "00010001016700000000000000000200000002000200030000000501aa01bb",
+        7,
+    ),
+];
 
 #[test]
 fn messages_refused(rt: HostRuntime) -> Result<(), Fail> {
-    let rows = [
-        // cut
-        (
-            "000100050001f00101aa01bb01cc000103626f6202000102f0010000020001010000000000000000ffffffffffffffff0001dd0001",
-            2,
-        ),
-        // longer
-        (
-            "000100050001f00101aa01bb01cc000103626f6202000102f0010000020001010000000000000000ffffffffffffffff0001dd0001ee00",
-            3,
-        ),
-        // another version
-        (
-            "000100050002f00101aa01bb01cc000103626f6202000102f0010000020001010000000000000000ffffffffffffffff0001dd0001ee",
-            7,
-        ),
-        // another credential
-        (
-            "000100050001f00101aa01bb01cc000203626f6202000102f0010000020001010000000000000000ffffffffffffffff0001dd0001ee",
-            11,
-        ),
-        // another sender
-        (
-            "00010001016700000000000000000200000002000200030000000501aa01bb",
-            7,
-        ),
-    ];
-    answers::<MlsMessage>(&rt, rt.alloc(), &rows)
+    answers::<MlsMessage>(&rt, rt.alloc(), REFUSED)
 }
+
+const COMMITS: &[(&str, u8)] = &[
+    ("070100030000000500", 0),
+    ("0000", 0),
+    ("0002", 7),
+    // with a path
+    (
+        "000101bb01cc000103626f6202000102f0010000020001010000000000000000ffffffffffffffff0001dd0701770401aa01bb",
+        0,
+    ),
+];
 
 #[test]
 fn commits(rt: HostRuntime) -> Result<(), Fail> {
-    let rows = [
-        ("070100030000000500", 0),
-        ("0000", 0),
-        ("0002", 7),
-        // with a path
-        (
-            "000101bb01cc000103626f6202000102f0010000020001010000000000000000ffffffffffffffff0001dd0701770401aa01bb",
-            0,
-        ),
-    ];
-    answers::<Commit>(&rt, rt.alloc(), &rows)
+    answers::<Commit>(&rt, rt.alloc(), COMMITS)
 }
 
 /// Whether a commit has one proposal in full, the removal of this leaf, and no path.

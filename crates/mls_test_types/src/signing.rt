@@ -30,19 +30,20 @@ fn framed_contents(rt: HostRuntime) -> Result<(), Fail> {
     answers::<FramedContent>(&rt, rt.alloc(), &[(FRAMED_CONTENT, 0)])
 }
 
+const CONTENTS: &[(&str, u8)] = &[
+    (SIGNED_CONTENT, 0),
+    (SIGNED_COMMIT, 0),
+    // data
+    ("016700000000000000000100000002000101dd01aa", 0),
+    // a commit with no tag
+    ("0167000000000000000001000000020003000001aa", 2),
+    // another content
+    ("0167000000000000000001000000020004", 7),
+];
+
 #[test]
 fn contents(rt: HostRuntime) -> Result<(), Fail> {
-    let rows = [
-        (SIGNED_CONTENT, 0),
-        (SIGNED_COMMIT, 0),
-        // data
-        ("016700000000000000000100000002000101dd01aa", 0),
-        // a commit with no tag
-        ("0167000000000000000001000000020003000001aa", 2),
-        // another content
-        ("0167000000000000000001000000020004", 7),
-    ];
-    answers::<SignedContent>(&rt, rt.alloc(), &rows)
+    answers::<SignedContent>(&rt, rt.alloc(), CONTENTS)
 }
 
 /// A public message without its tag.
@@ -74,13 +75,28 @@ fn proposal_references(rt: HostRuntime) -> Result<(), Fail> {
     )
 }
 
-/// The spelling of a framed content with the signature aa and, if it is a commit, the tag bb.
-fn signed_with(alloc: Global, framed: &str) -> Result<Vec<u8>, LeafError> {
-    let signature = Bytes::from_vec(bytes_of(alloc, "aa")?);
-    let confirmation_tag = Bytes::from_vec(bytes_of(alloc, "bb")?);
-    let content = value_of::<FramedContent>(alloc, framed)?;
+/// The spelling of a framed content with this signature and, if it is a commit, this tag.
+fn spelling_with(
+    alloc: Global,
+    content: Box<FramedContent>,
+    signature: Bytes,
+    confirmation_tag: Bytes,
+) -> Result<Vec<u8>, LeafError> {
     let content = SignedContent::new(Box::into_inner(content), signature, confirmation_tag);
     spelling_of(content, alloc)
+}
+
+/// The spelling of a framed content with the signature aa and, if it is a commit, the tag bb.
+fn signed_with(alloc: Global, framed: &str) -> Result<Vec<u8>, LeafError> {
+    let content = value_of::<FramedContent>(alloc, framed)?;
+    let signature = bytes_of(alloc, "aa")?;
+    let tag = bytes_of(alloc, "bb")?;
+    spelling_with(
+        alloc,
+        content,
+        Bytes::from_vec(signature),
+        Bytes::from_vec(tag),
+    )
 }
 
 fn framed_of(alloc: Global, signed: &str) -> Result<Vec<u8>, LeafError> {
@@ -103,33 +119,30 @@ fn signed_and_framed(rt: HostRuntime) -> Result<(), Fail> {
     spells(&rt, alloc, framed_of(alloc, SIGNED_COMMIT), FRAMED_COMMIT)
 }
 
-fn signed_of_framed(alloc: Global) -> Result<Vec<u8>, LeafError> {
-    let context = value_of::<GroupContext>(alloc, GROUP_CONTEXT)?;
+fn signed_of_framed(alloc: Global, context: &GroupContext) -> Result<Vec<u8>, LeafError> {
     let content = value_of::<FramedContent>(alloc, FRAMED_CONTENT)?;
-    content.to_be_signed(alloc, WireFormat::PublicMessage, &context)
+    content.to_be_signed(alloc, WireFormat::PublicMessage, context)
 }
 
-fn signed_of_content(alloc: Global) -> Result<Vec<u8>, LeafError> {
-    let context = value_of::<GroupContext>(alloc, GROUP_CONTEXT)?;
+fn signed_of_content(alloc: Global, context: &GroupContext) -> Result<Vec<u8>, LeafError> {
     let content = value_of::<SignedContent>(alloc, SIGNED_CONTENT)?;
-    content.to_be_signed(alloc, WireFormat::PublicMessage, &context)
+    content.to_be_signed(alloc, WireFormat::PublicMessage, context)
 }
 
-fn tagged_of_content(alloc: Global) -> Result<Vec<u8>, LeafError> {
-    let context = value_of::<GroupContext>(alloc, GROUP_CONTEXT)?;
+fn tagged_of_content(alloc: Global, context: &GroupContext) -> Result<Vec<u8>, LeafError> {
     let content = value_of::<SignedContent>(alloc, SIGNED_CONTENT)?;
-    content.to_be_tagged(alloc, WireFormat::PublicMessage, &context)
+    content.to_be_tagged(alloc, WireFormat::PublicMessage, context)
 }
 
 #[test]
 fn signed_and_tagged(rt: HostRuntime) -> Result<(), Fail> {
     let alloc = rt.alloc();
-    spells(&rt, alloc, signed_of_framed(alloc), FRAMED_CONTENT_TBS)?;
-    spells(&rt, alloc, signed_of_content(alloc), FRAMED_CONTENT_TBS)?;
-    spells(
-        &rt,
-        alloc,
-        tagged_of_content(alloc),
-        AUTHENTICATED_CONTENT_TBM,
-    )
+    let context = value_of::<GroupContext>(alloc, GROUP_CONTEXT)?;
+    let framed = signed_of_framed(alloc, &context);
+    let content = signed_of_content(alloc, &context);
+    let tagged = tagged_of_content(alloc, &context);
+    drop(context);
+    spells(&rt, alloc, framed, FRAMED_CONTENT_TBS)?;
+    spells(&rt, alloc, content, FRAMED_CONTENT_TBS)?;
+    spells(&rt, alloc, tagged, AUTHENTICATED_CONTENT_TBM)
 }

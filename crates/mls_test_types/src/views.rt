@@ -21,20 +21,30 @@ const EXTENSIONS_MESSAGE: &str =
 /// A welcome for the two KeyPackages with the references aa and ab.
 const WELCOME: &str = "00010003f0010c01aa01bb01cc01ab01bb01cc01dd";
 
+/// The view of a message. It promises nothing.
+fn view(bytes: &[u8]) -> Result<MessageView<'_>, LeafError> {
+    MessageView::read(bytes)
+}
+
+/// Whether a public message has these as its FramedContent, its auth data and its tag.
+fn has_parts(view: &MessageView<'_>, framed: &[u8], auth: &[u8], tag: &[u8]) -> bool {
+    match view {
+        MessageView::PublicMessage(message) => {
+            message.framed_content == framed
+                && message.auth_data == auth
+                && message.membership_tag == tag
+        }
+        _ => false,
+    }
+}
+
 /// Whether the view of a public message lends these bytes as its FramedContent, its auth data and its tag.
 fn lends(alloc: Global, [digits, framed, auth, tag]: [&str; 4]) -> Result<bool, LeafError> {
     let bytes = bytes_of(alloc, digits)?;
     let framed = bytes_of(alloc, framed)?;
     let auth = bytes_of(alloc, auth)?;
     let tag = bytes_of(alloc, tag)?;
-    match MessageView::read(&bytes)? {
-        MessageView::PublicMessage(message) => Ok(
-            message.framed_content == framed.as_slice()
-                && message.auth_data == auth.as_slice()
-                && message.membership_tag == tag.as_slice(),
-        ),
-        _ => Ok(false),
-    }
+    Ok(has_parts(&view(&bytes)?, &framed, &auth, &tag))
 }
 
 /// Whether the removal and a commit lend their parts.
@@ -53,11 +63,15 @@ fn public_messages(rt: HostRuntime) -> Result<(), Fail> {
     holds(&rt, both_lend(rt.alloc()), "both messages")
 }
 
+/// The spelling of what is owned of a view.
+fn owned_spelling(alloc: Global, view: &MessageView<'_>) -> Result<Vec<u8>, LeafError> {
+    spelling_of(view.to_owned(alloc)?, alloc)
+}
+
 /// Whether what is owned of the view is spelled as the bytes are.
 fn is_owned(alloc: Global, digits: &str) -> Result<bool, LeafError> {
     let bytes = bytes_of(alloc, digits)?;
-    let view = MessageView::read(&bytes)?;
-    let again = spelling_of(view.to_owned(alloc)?, alloc)?;
+    let again = owned_spelling(alloc, &view(&bytes)?)?;
     Ok(again == bytes)
 }
 
@@ -80,40 +94,57 @@ fn owned_messages(rt: HostRuntime) -> Result<(), Fail> {
     are_owned(&rt, rt.alloc(), &messages)
 }
 
-/// How many entries the view of a welcome has, or 9 where there is none.
-fn entries(alloc: Global, digits: &str) -> Result<u8, LeafError> {
-    let bytes = bytes_of(alloc, digits)?;
-    match MessageView::read(&bytes)? {
-        MessageView::Welcome(welcome) => {
-            let mut walk = welcome.secrets.walk();
-            if walk.next().is_none() {
-                return Ok(0);
-            }
-            if walk.next().is_none() {
-                return Ok(1);
-            }
-            if walk.next().is_none() { Ok(2) } else { Ok(3) }
+/// How many entries a welcome has, or 3 where it has more.
+fn count_entries(welcome: &WelcomeView<'_>) -> u8 {
+    let mut walk = welcome.secrets.walk();
+    for count in 0..3u8 {
+        if walk.next().is_none() {
+            return count;
         }
-        _ => Ok(9),
+    }
+    3
+}
+
+/// How many entries the view of a welcome has, or 9 where there is none.
+fn entries_of(view: &MessageView<'_>) -> u8 {
+    match view {
+        MessageView::Welcome(welcome) => count_entries(welcome),
+        _ => 9,
     }
 }
 
-/// Whether the first entry of the welcome is for this reference, with this ciphertext.
+fn entries(alloc: Global, digits: &str) -> Result<u8, LeafError> {
+    let bytes = bytes_of(alloc, digits)?;
+    Ok(entries_of(&view(&bytes)?))
+}
+
+/// The first entry of a welcome.
+fn first_entry<'a>(welcome: &WelcomeView<'a>) -> Option<EncryptedGroupSecretsView<'a>> {
+    let entry = welcome.secrets.walk().next()?;
+    Some(EncryptedGroupSecretsView::of(&entry))
+}
+
+/// Whether the first entry of a welcome is for this reference, with this ciphertext.
+fn begins_with(welcome: &WelcomeView<'_>, reference: u8, ciphertext: u8) -> bool {
+    match first_entry(welcome) {
+        Some(entry) => {
+            entry.new_member == [reference].as_slice()
+                && entry.ciphertext == [ciphertext].as_slice()
+        }
+        None => false,
+    }
+}
+
+fn is_first_of(view: &MessageView<'_>, reference: u8, ciphertext: u8) -> bool {
+    match view {
+        MessageView::Welcome(welcome) => begins_with(welcome, reference, ciphertext),
+        _ => false,
+    }
+}
+
 fn is_first(alloc: Global, digits: &str, reference: u8, ciphertext: u8) -> Result<bool, LeafError> {
     let bytes = bytes_of(alloc, digits)?;
-    match MessageView::read(&bytes)? {
-        MessageView::Welcome(welcome) => match welcome.secrets.walk().next() {
-            Some(entry) => {
-                let entry = EncryptedGroupSecretsView::of(&entry);
-                Ok(
-                    entry.new_member == [reference].as_slice()
-                        && entry.ciphertext == [ciphertext].as_slice(),
-                )
-            }
-            None => Ok(false),
-        },
-        _ => Ok(false),
-    }
+    Ok(is_first_of(&view(&bytes)?, reference, ciphertext))
 }
 
 /// Whether the welcome has two entries, with this one first, and the welcome without entries has none.
@@ -132,7 +163,7 @@ fn walks(rt: HostRuntime) -> Result<(), Fail> {
 
 /// The number that the view is refused with, or 0. The call has no allocator, so it can take no memory.
 fn number_of(bytes: &[u8]) -> u8 {
-    match MessageView::read(bytes) {
+    match view(bytes) {
         Ok(_) => 0,
         Err(error) => error.number(),
     }
@@ -173,16 +204,26 @@ fn messages_refused(rt: HostRuntime) -> Result<(), Fail> {
     agree(&rt, rt.alloc(), &messages)
 }
 
+/// The header of the byte string that fills up a message with so many bytes in front of it and behind it.
+fn header_between(front: usize, behind: usize) -> [u8; 4] {
+    let content = (INPUT_LIMIT - 4)
+        .saturating_sub(front)
+        .saturating_sub(behind);
+    (0x8000_0000 + content as u32).to_be_bytes()
+}
+
+/// Fills up a message with so many bytes behind it.
+fn fill(bytes: &mut Vec<u8>, behind: usize) -> Result<(), AllocError> {
+    let header = header_between(bytes.len(), behind);
+    bytes.extend_from_slice(&header)?;
+    bytes.resize(INPUT_LIMIT.saturating_sub(behind), 0)
+}
+
 /// A message as long as an input may be: these in front, then a byte string of zeros that fills it up, and these behind it.
 fn fill_message(alloc: Global, front: &str, behind: &str) -> Result<Vec<u8>, AllocError> {
     let mut bytes = bytes_of(alloc, front)?;
     let behind = bytes_of(alloc, behind)?;
-    let content = (INPUT_LIMIT - 4)
-        .saturating_sub(bytes.len())
-        .saturating_sub(behind.len());
-    let header = (0x8000_0000 + content as u32).to_be_bytes();
-    bytes.extend_from_slice(&header)?;
-    bytes.resize(INPUT_LIMIT.saturating_sub(behind.len()), 0)?;
+    fill(&mut bytes, behind.len())?;
     bytes.extend_from_slice(&behind)?;
     Ok(bytes)
 }
@@ -201,23 +242,24 @@ fn are_read(rt: &impl Abort, alloc: Global, rows: &[(&str, &str)]) -> Result<(),
     Ok(())
 }
 
+const LONG_MESSAGES: &[(&str, &str)] = &[
+    // application data
+    ("000100010167000000000000000001000000020001", "01aa01bb"),
+    // a welcome
+    ("00010003f00100", ""),
+    // a key package
+    (
+        "000100050001f001",
+        "01bb01cc000103626f6202000102f0010000020001010000000000000000ffffffffffffffff0001dd0001ee",
+    ),
+    // a group info
+    (
+        "000100040001f00101670000000000000000201111111111111111111111111111111111111111111111111111111111111111000000",
+        "0000000001dd",
+    ),
+];
+
 #[test]
 fn long_messages(rt: HostRuntime) -> Result<(), Fail> {
-    let rows = [
-        // application data
-        ("000100010167000000000000000001000000020001", "01aa01bb"),
-        // a welcome
-        ("00010003f00100", ""),
-        // a key package
-        (
-            "000100050001f001",
-            "01bb01cc000103626f6202000102f0010000020001010000000000000000ffffffffffffffff0001dd0001ee",
-        ),
-        // a group info
-        (
-            "000100040001f00101670000000000000000201111111111111111111111111111111111111111111111111111111111111111000000",
-            "0000000001dd",
-        ),
-    ];
-    are_read(&rt, rt.alloc(), &rows)
+    are_read(&rt, rt.alloc(), LONG_MESSAGES)
 }
