@@ -22,17 +22,34 @@ const Y: [u8; 4] = [1, 0xbb, 0, 0];
 
 const Z: [u8; 8] = [1, 0xcc, 0, 4, 0, 0, 0, 2];
 
+// The place of the parent that these bytes spell.
+fn parent_slot(alloc: Global, bytes: &[u8]) -> Result<Slot, LeafError> {
+    let parent = ParentNode::decode(alloc, bytes)?;
+    Ok(Slot::of(alloc, Node::Parent(parent))?)
+}
+
+fn leaf_slot(alloc: Global) -> Result<Slot, LeafError> {
+    let leaf = LeafNode::decode(alloc, &LEAF)?;
+    Ok(Slot::of(alloc, Node::Leaf(leaf))?)
+}
+
 // A node of the example of RFC 9420, 4.1.1: X[B] over A, B, a blank leaf and D, and Y over E and F, beside a
 // blank leaf and H.
 fn example_node(alloc: Global, x: usize) -> Result<Slot, LeafError> {
     match x {
-        0 | 2 | 6 | 8 | 10 | 14 => Ok(Slot::of(
-            alloc,
-            Node::Leaf(LeafNode::decode(alloc, &LEAF)?),
-        )?),
-        3 => Ok(Slot::of(alloc, Node::Parent(ParentNode::decode(alloc, &X)?))?),
-        9 => Ok(Slot::of(alloc, Node::Parent(ParentNode::decode(alloc, &Y)?))?),
+        0 | 2 | 6 | 8 | 10 | 14 => leaf_slot(alloc),
+        3 => parent_slot(alloc, &X),
+        9 => parent_slot(alloc, &Y),
         _ => Ok(Slot::blank()),
+    }
+}
+
+// A node of it, with parents in these places that list leaf 2, which is blank.
+fn node_with(alloc: Global, wrong: &[usize], x: usize) -> Result<Slot, LeafError> {
+    if wrong.contains(&x) {
+        parent_slot(alloc, &Z)
+    } else {
+        example_node(alloc, x)
     }
 }
 
@@ -42,11 +59,7 @@ fn example_with(alloc: Global, wrong: &[usize]) -> Result<Vec<Slot>, LeafError>
 {
     let mut nodes = Vec::new(alloc);
     for x in 0..15 {
-        let node = if wrong.contains(&x) {
-            Slot::of(alloc, Node::Parent(ParentNode::decode(alloc, &Z)?))?
-        } else {
-            example_node(alloc, x)?
-        };
+        let node = node_with(alloc, wrong, x)?;
         nodes.push(node)?;
     }
     Ok(nodes)

@@ -82,10 +82,17 @@ fn refusal(tree: &mut PublicTree) -> Result<u8, TreeError>
     }
 }
 
+/// The same of a tree that was sent.
+fn refusal_of_sent(alloc: Global, bytes: &[u8]) -> Result<u8, TreeError> {
+    let mut taken = tree_in(alloc, bytes)?;
+    let refused = refusal(&mut taken);
+    drop(taken);
+    refused
+}
+
 /// What the tree is refused with in the group "g", or 0, once its nodes are sent and taken in.
 pub(crate) fn check(alloc: Global, tree: &PublicTree) -> Result<Vec<u64>, TreeError> {
     let bytes = sent_bytes(alloc, tree)?;
-    let mut taken = tree_in(alloc, &bytes)?;
-    let refused = refusal(&mut taken)?;
+    let refused = refusal_of_sent(alloc, &bytes)?;
     number(alloc, u64::from(refused))
 }

@@ -16,13 +16,31 @@ fn numbers(alloc: Global) -> Items<u16> {
     Items::from_vec(Vec::new(alloc))
 }
 
-/// A leaf with this byte as its encryption key.
-pub(crate) fn leaf(alloc: Global, key: u8, source: LeafSource) -> Result<LeafNode, AllocError> {
-    Ok(LeafNode {
+/// The parts of a leaf that are byte strings, each of one byte.
+#[derive(Drop)]
+struct LeafParts {
+    encryption_key: Bytes,
+    signature_key: Bytes,
+    identity: Bytes,
+    signature: Bytes,
+}
+
+fn parts(alloc: Global, key: u8) -> Result<LeafParts, AllocError> {
+    Ok(LeafParts {
         encryption_key: byte(alloc, key)?,
         signature_key: byte(alloc, key)?,
+        identity: byte(alloc, key)?,
+        signature: byte(alloc, key)?,
+    })
+}
+
+/// The leaf of these parts.
+fn leaf_of(alloc: Global, parts: LeafParts, source: LeafSource) -> LeafNode {
+    LeafNode {
+        encryption_key: parts.encryption_key,
+        signature_key: parts.signature_key,
         credential: Credential {
-            identity: byte(alloc, key)?,
+            identity: parts.identity,
         },
         capabilities: Capabilities {
             versions: numbers(alloc),
@@ -32,13 +50,21 @@ pub(crate) fn leaf(alloc: Global, key: u8, source: LeafSource) -> Result<LeafNod
             credentials: numbers(alloc),
         },
         source,
-        signature: byte(alloc, key)?,
-    })
+        signature: parts.signature,
+    }
+}
+
+/// A leaf with this byte as its encryption key, of a commit with this parent hash.
+pub(crate) fn committed(alloc: Global, key: u8, hash: Vec<u8>) -> Result<LeafNode, AllocError> {
+    let parent_hash = Bytes::from_vec(hash);
+    let parts = parts(alloc, key)?;
+    Ok(leaf_of(alloc, parts, LeafSource::Commit { parent_hash }))
 }
 
 /// A leaf with this byte as its encryption key, which no commit made.
 pub(crate) fn member(alloc: Global, key: u8) -> Result<LeafNode, AllocError> {
-    leaf(alloc, key, LeafSource::Update)
+    let parts = parts(alloc, key)?;
+    Ok(leaf_of(alloc, parts, LeafSource::Update))
 }
 
 /// A tree in a box, so that the proof of a test, which drops it at each call that may fail, goes into none of its
@@ -64,6 +90,16 @@ fn member_slot(alloc: Global, key: u8) -> Result<Slot, AllocError> {
     Slot::of(alloc, Node::Leaf(member(alloc, key)?))
 }
 
+/// Puts a leaf behind other nodes, of a member with the key 1 or blank.
+fn put_leaf(alloc: Global, nodes: &mut Vec<Slot>, is_taken: bool) -> Result<(), AllocError> {
+    if is_taken {
+        nodes.push(member_slot(alloc, 1)?)?;
+    } else {
+        nodes.push(Slot::blank())?;
+    }
+    Ok(())
+}
+
 /// The nodes of a tree, up to the last leaf that is taken: its leaves as listed.
 fn nodes_of(alloc: Global, leaves: &[bool]) -> Result<Vec<Slot>, AllocError> {
     let mut nodes = Vec::new(alloc);
@@ -71,12 +107,7 @@ fn nodes_of(alloc: Global, leaves: &[bool]) -> Result<Vec<Slot>, AllocError> {
         if !nodes.is_empty() {
             nodes.push(Slot::blank())?;
         }
-        let leaf = if *is_taken {
-            member_slot(alloc, 1)?
-        } else {
-            Slot::blank()
-        };
-        nodes.push(leaf)?;
+        put_leaf(alloc, &mut nodes, *is_taken)?;
     }
     Ok(nodes)
 }
