@@ -109,25 +109,26 @@ fn prints(
     gives(rt, text_with(alloc, rows, ending), wanted, "a page")
 }
 
+const KINDS: &[Row] = &[
+    (Front::None, "bytes", Value::Bytes(&[0, 0xA9, 0xFF])),
+    (Front::None, "none", Value::Bytes(&[])),
+    (Front::None, "numbers", Value::Numbers(&[1, 0xF001])),
+    (Front::None, "no_numbers", Value::Numbers(&[])),
+    (Front::None, "digits", Value::Digits(0x0A0B)),
+    (
+        Front::None,
+        "number",
+        Value::Number(18_446_744_073_709_551_615),
+    ),
+    (Front::None, "indexes", Value::Indexes(&[0, 4_294_967_295])),
+    (Front::None, "word", Value::Word("a \"word\" \\ of\nlines")),
+    (Front::None, "refusal", Value::Refusal(51)),
+    (Front::None, "named", Value::Named(7, "seven")),
+    (Front::None, "extension", Value::Extension(0xF0F1, &[1, 2])),
+];
+
 #[test]
 fn prints_each_kind_of_value(rt: HostRuntime) -> Result<(), Fail> {
-    let rows = [
-        (Front::None, "bytes", Value::Bytes(&[0, 0xA9, 0xFF])),
-        (Front::None, "none", Value::Bytes(&[])),
-        (Front::None, "numbers", Value::Numbers(&[1, 0xF001])),
-        (Front::None, "no_numbers", Value::Numbers(&[])),
-        (Front::None, "digits", Value::Digits(0x0A0B)),
-        (
-            Front::None,
-            "number",
-            Value::Number(18_446_744_073_709_551_615),
-        ),
-        (Front::None, "indexes", Value::Indexes(&[0, 4_294_967_295])),
-        (Front::None, "word", Value::Word("a \"word\" \\ of\nlines")),
-        (Front::None, "refusal", Value::Refusal(51)),
-        (Front::None, "named", Value::Named(7, "seven")),
-        (Front::None, "extension", Value::Extension(0xF0F1, &[1, 2])),
-    ];
     let wanted = concat!(
         r#"{"bytes":"00a9ff","none":"","numbers":["0001","f001"],"no_numbers":[],"#,
         r#""digits":"0a0b","number":18446744073709551615,"indexes":[0,4294967295],"#,
@@ -135,36 +136,38 @@ fn prints_each_kind_of_value(rt: HostRuntime) -> Result<(), Fail> {
         r#""named":{"number":7,"name":"seven"},"extension":{"type":"f0f1","data":"0102"}}"#,
         "\n0"
     );
-    prints(&rt, rt.alloc(), &rows, Ending::Good, wanted)
+    prints(&rt, rt.alloc(), KINDS, Ending::Good, wanted)
 }
+
+const NEIGHBOURS: &[Row] = &[
+    (Front::None, "one", Value::Number(1)),
+    (Front::None, "two", Value::Number(2)),
+    (Front::None, "two", Value::Number(3)),
+    (Front::None, "two", Value::Number(4)),
+    (Front::None, "on", Value::Number(5)),
+    (Front::Word("leaf."), "on", Value::Number(6)),
+    (Front::Item("node.", 12), "on", Value::Number(7)),
+    (Front::Item("node.", 12), "on", Value::Number(8)),
+    (Front::Item("node.", 13), "on", Value::Number(9)),
+];
 
 #[test]
 fn gathers_neighbours_of_one_name(rt: HostRuntime) -> Result<(), Fail> {
-    let rows = [
-        (Front::None, "one", Value::Number(1)),
-        (Front::None, "two", Value::Number(2)),
-        (Front::None, "two", Value::Number(3)),
-        (Front::None, "two", Value::Number(4)),
-        (Front::None, "on", Value::Number(5)),
-        (Front::Word("leaf."), "on", Value::Number(6)),
-        (Front::Item("node.", 12), "on", Value::Number(7)),
-        (Front::Item("node.", 12), "on", Value::Number(8)),
-        (Front::Item("node.", 13), "on", Value::Number(9)),
-    ];
     let wanted = concat!(
         r#"{"one":1,"two":[2,3,4],"on":5,"leaf.on":6,"node.12.on":[7,8],"node.13.on":9}"#,
         "\n1"
     );
-    prints(&rt, rt.alloc(), &rows, Ending::Failed, wanted)
+    prints(&rt, rt.alloc(), NEIGHBOURS, Ending::Failed, wanted)
 }
+
+const LEAVES: &[Row] = &[(Front::None, "leaves", Value::Number(2))];
 
 #[test]
 fn ends_with_the_refusal(rt: HostRuntime) -> Result<(), Fail> {
     let alloc = rt.alloc();
     let alone = "{\"refused\":{\"number\":8,\"name\":\"NotHex\"}}\n1";
     prints(&rt, alloc, &[], Ending::Refused(8), alone)?;
-    let leaves = [(Front::None, "leaves", Value::Number(2))];
     let behind = "{\"leaves\":2,\"refused\":{\"number\":25,\"name\":\"KeyRepeated\"}}\n1";
-    prints(&rt, alloc, &leaves, Ending::Refused(25), behind)?;
+    prints(&rt, alloc, LEAVES, Ending::Refused(25), behind)?;
     prints(&rt, alloc, &[], Ending::Good, "{}\n0")
 }

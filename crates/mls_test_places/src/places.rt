@@ -351,6 +351,12 @@ fn changed_line(
     place_line(alloc, whole, changed.as_slice())
 }
 
+/// Puts the line of a place behind a text.
+fn push_line(alloc: Global, text: &mut String, index: usize, line: &str) -> Result<(), AllocError> {
+    let whole = format!(in alloc; "{index} {line}\n")?;
+    text.push_str(whole.as_str())
+}
+
 /// A line for each place at which a change brings another line than at the place before.
 fn changed_lines(
     alloc: Global,
@@ -364,7 +370,7 @@ fn changed_lines(
     for index in 0..bytes.len() {
         let line = changed_line(alloc, whole, change, bytes.as_slice(), index)?;
         if line.as_str() != last.as_str() {
-            text.push_str(format!(in alloc; "{index} {line}\n")?.as_str())?;
+            push_line(alloc, &mut text, index, line.as_str())?;
         }
         last = line;
     }
@@ -389,21 +395,23 @@ fn changes(
     Ok(())
 }
 
+const CHANGED: &[(Whole, &str, &str)] = &[
+    (Whole::Message, COMMIT, CHANGED_COMMIT),
+    (Whole::Message, WELCOME, CHANGED_WELCOME),
+    (Whole::Message, GROUP_INFO, CHANGED_GROUP_INFO),
+    (Whole::Tree, TREE, CHANGED_TREE),
+];
+
 #[test]
 fn places_in_changed_inputs(rt: HostRuntime) -> Result<(), Fail> {
-    let rows = [
-        (Whole::Message, COMMIT, CHANGED_COMMIT),
-        (Whole::Message, WELCOME, CHANGED_WELCOME),
-        (Whole::Message, GROUP_INFO, CHANGED_GROUP_INFO),
-        (Whole::Tree, TREE, CHANGED_TREE),
-    ];
-    changes(&rt, rt.alloc(), Change::Turn, &rows)
+    changes(&rt, rt.alloc(), Change::Turn, CHANGED)
 }
+
+const CUT: &[(Whole, &str, &str)] = &[(Whole::Message, COMMIT, CUT_COMMIT)];
 
 #[test]
 fn places_in_cut_inputs(rt: HostRuntime) -> Result<(), Fail> {
-    let rows = [(Whole::Message, COMMIT, CUT_COMMIT)];
-    changes(&rt, rt.alloc(), Change::Cut, &rows)
+    changes(&rt, rt.alloc(), Change::Cut, CUT)
 }
 
 /// The line of an input.
@@ -419,37 +427,38 @@ fn places(rt: &impl Abort, alloc: Global, rows: &[(Whole, &str, &str)]) -> Resul
     Ok(())
 }
 
+const ENDS: &[(Whole, &str, &str)] = &[
+    (Whole::Message, COMMIT, "none"),
+    (Whole::Message, WELCOME, "none"),
+    (Whole::Message, GROUP_INFO, "none"),
+    (Whole::Tree, TREE, "none"),
+    (Whole::Message, "", "offset: 0 field: version fault: 2"),
+    (Whole::Tree, "", "offset: 0 field: ratchet_tree fault: 2"),
+    (
+        Whole::Tree,
+        "4049010101450153000102696402000102f001000002000102000373696701020170000800000001000000050000010101450153000102696402000102f00100000200010300000373696700",
+        "offset: 75 field: ratchet_tree fault: 3",
+    ),
+    (
+        Whole::Message,
+        "00010003f0010a016e016b0163016f00000267690000",
+        "offset: 20 field: MLSMessage fault: 3",
+    ),
+    (
+        Whole::Message,
+        "000100040001f0010167000000000000000101740000404000021d1c010101450153000102696402000102f001000002000102000373696700021d1c010101450153000102696402000102f00100000200010200037369670163000000000173",
+        "offset: 56 field: group_info.extensions[1].extension_type fault: 14",
+    ),
+    (
+        Whole::Message,
+        "000100040001f00101670000000000000001017400002100021e1c010101450153000102696402000102f0010000020001020003736967000163000000000173",
+        "offset: 55 field: group_info.extensions[0].extension_data fault: 3",
+    ),
+];
+
 #[test]
 fn places_at_the_ends(rt: HostRuntime) -> Result<(), Fail> {
-    let rows = [
-        (Whole::Message, COMMIT, "none"),
-        (Whole::Message, WELCOME, "none"),
-        (Whole::Message, GROUP_INFO, "none"),
-        (Whole::Tree, TREE, "none"),
-        (Whole::Message, "", "offset: 0 field: version fault: 2"),
-        (Whole::Tree, "", "offset: 0 field: ratchet_tree fault: 2"),
-        (
-            Whole::Tree,
-            "4049010101450153000102696402000102f001000002000102000373696701020170000800000001000000050000010101450153000102696402000102f00100000200010300000373696700",
-            "offset: 75 field: ratchet_tree fault: 3",
-        ),
-        (
-            Whole::Message,
-            "00010003f0010a016e016b0163016f00000267690000",
-            "offset: 20 field: MLSMessage fault: 3",
-        ),
-        (
-            Whole::Message,
-            "000100040001f0010167000000000000000101740000404000021d1c010101450153000102696402000102f001000002000102000373696700021d1c010101450153000102696402000102f00100000200010200037369670163000000000173",
-            "offset: 56 field: group_info.extensions[1].extension_type fault: 14",
-        ),
-        (
-            Whole::Message,
-            "000100040001f00101670000000000000001017400002100021e1c010101450153000102696402000102f0010000020001020003736967000163000000000173",
-            "offset: 55 field: group_info.extensions[0].extension_data fault: 3",
-        ),
-    ];
-    places(&rt, rt.alloc(), &rows)
+    places(&rt, rt.alloc(), ENDS)
 }
 
 /// The offset of the first fault in the file of a message.
@@ -472,15 +481,16 @@ fn offsets(
     Ok(())
 }
 
+const FILES: &[(Form, &[u8], Option<usize>)] = &[
+    (Form::Hex, b" 0001\n", Some(2)),
+    (Form::Hex, b"00 01", None),
+    (Form::Raw, b"\0\x01\0", Some(2)),
+    (Form::Raw, b"0001", Some(0)),
+];
+
 #[test]
 fn finds_places_in_files(rt: HostRuntime) -> Result<(), Fail> {
-    let rows = [
-        (Form::Hex, b" 0001\n".as_slice(), Some(2)),
-        (Form::Hex, b"00 01".as_slice(), None),
-        (Form::Raw, b"\0\x01\0".as_slice(), Some(2)),
-        (Form::Raw, b"0001".as_slice(), Some(0)),
-    ];
-    offsets(&rt, rt.alloc(), &rows)
+    offsets(&rt, rt.alloc(), FILES)
 }
 
 /// What is printed of the place in a message.

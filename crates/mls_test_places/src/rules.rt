@@ -43,24 +43,25 @@ impl Subject for Incapable {
     }
 }
 
+const CAPABILITIES: &[(&str, &str)] = &[
+    (TWINS, "None"),
+    (
+        "40770101204b4b4b4b4b4b4b4b4b4b4b4b4b4b4b4b4b4b4b4b4b4b4b4b4b4b4b4b4b4b4b4b0153000102\
+         696402000102f0010000020001020003736967000101204b4b4b4b4b4b4b4b4b4b4b4b4b4b4b4b4b4b4b\
+         4b4b4b4b4b4b4b4b4b4b4b4b4b015300010269640200010200010000020001020003736967",
+        "Some(1)",
+    ),
+    (
+        "40770101204b4b4b4b4b4b4b4b4b4b4b4b4b4b4b4b4b4b4b4b4b4b4b4b4b4b4b4b4b4b4b4b0153000102\
+         696402000202f0010000020001020003736967000101204b4b4b4b4b4b4b4b4b4b4b4b4b4b4b4b4b4b4b\
+         4b4b4b4b4b4b4b4b4b4b4b4b4b015300010269640200010200010000020001020003736967",
+        "Some(0)",
+    ),
+];
+
 #[test]
 fn finds_members_that_lack_a_capability(rt: HostRuntime) -> Result<(), Fail> {
-    let rows = [
-        (TWINS, "None"),
-        (
-            "40770101204b4b4b4b4b4b4b4b4b4b4b4b4b4b4b4b4b4b4b4b4b4b4b4b4b4b4b4b4b4b4b4b0153000102\
-             696402000102f0010000020001020003736967000101204b4b4b4b4b4b4b4b4b4b4b4b4b4b4b4b4b4b4b\
-             4b4b4b4b4b4b4b4b4b4b4b4b4b015300010269640200010200010000020001020003736967",
-            "Some(1)",
-        ),
-        (
-            "40770101204b4b4b4b4b4b4b4b4b4b4b4b4b4b4b4b4b4b4b4b4b4b4b4b4b4b4b4b4b4b4b4b0153000102\
-             696402000202f0010000020001020003736967000101204b4b4b4b4b4b4b4b4b4b4b4b4b4b4b4b4b4b4b\
-             4b4b4b4b4b4b4b4b4b4b4b4b4b015300010269640200010200010000020001020003736967",
-            "Some(0)",
-        ),
-    ];
-    answers(&rt, rt.alloc(), &Incapable, &rows)
+    answers(&rt, rt.alloc(), &Incapable, CAPABILITIES)
 }
 
 /// The first nodes whose key isn't fit, and that stand out of their places.
@@ -75,30 +76,31 @@ impl Subject for FirstNodes {
     }
 }
 
+const NODES: &[(&str, &str)] = &[
+    ("06010201700000", "Some(0) Some(0)"),
+    (
+        "40760101204b4b4b4b4b4b4b4b4b4b4b4b4b4b4b4b4b4b4b4b4b4b4b4b4b4b4b4b4b4b4b4b0153000102\
+         696402000102f00100000200010200037369670101204b4b4b4b4b4b4b4b4b4b4b4b4b4b4b4b4b4b4b4b\
+         4b4b4b4b4b4b4b4b4b4b4b4b0153000102696402000102f0010000020001020003736967",
+        "None Some(1)",
+    ),
+    (
+        "40760101204b4b4b4b4b4b4b4b4b4b4b4b4b4b4b4b4b4b4b4b4b4b4b4b4b4b4b4b4b4b4b4b0153000102\
+         696402000102f00100000200010200037369670001011f4b4b4b4b4b4b4b4b4b4b4b4b4b4b4b4b4b4b4b\
+         4b4b4b4b4b4b4b4b4b4b4b4b0153000102696402000102f0010000020001020003736967",
+        "Some(2) None",
+    ),
+    (
+        "2b000102204b4b4b4b4b4b4b4b4b4b4b4b4b4b4b4b4b4b4b4b4b4b4b4b4b4b4b4b4b4b4b4b0000010200\
+         0000",
+        "Some(2) Some(2)",
+    ),
+    ("03000000", "None None"),
+];
+
 #[test]
 fn finds_nodes(rt: HostRuntime) -> Result<(), Fail> {
-    let rows = [
-        ("06010201700000", "Some(0) Some(0)"),
-        (
-            "40760101204b4b4b4b4b4b4b4b4b4b4b4b4b4b4b4b4b4b4b4b4b4b4b4b4b4b4b4b4b4b4b4b0153000102\
-             696402000102f00100000200010200037369670101204b4b4b4b4b4b4b4b4b4b4b4b4b4b4b4b4b4b4b4b\
-             4b4b4b4b4b4b4b4b4b4b4b4b0153000102696402000102f0010000020001020003736967",
-            "None Some(1)",
-        ),
-        (
-            "40760101204b4b4b4b4b4b4b4b4b4b4b4b4b4b4b4b4b4b4b4b4b4b4b4b4b4b4b4b4b4b4b4b0153000102\
-             696402000102f00100000200010200037369670001011f4b4b4b4b4b4b4b4b4b4b4b4b4b4b4b4b4b4b4b\
-             4b4b4b4b4b4b4b4b4b4b4b4b0153000102696402000102f0010000020001020003736967",
-            "Some(2) None",
-        ),
-        (
-            "2b000102204b4b4b4b4b4b4b4b4b4b4b4b4b4b4b4b4b4b4b4b4b4b4b4b4b4b4b4b4b4b4b4b0000010200\
-             0000",
-            "Some(2) Some(2)",
-        ),
-        ("03000000", "None None"),
-    ];
-    answers(&rt, rt.alloc(), &FirstNodes, &rows)
+    answers(&rt, rt.alloc(), &FirstNodes, NODES)
 }
 
 #[test]
@@ -178,41 +180,43 @@ fn info_breaches(rt: &impl Abort, alloc: Global, rows: &[(&str, u8, &str)]) -> R
     Ok(())
 }
 
+const BREACHES: &[(&str, &str, u8, &str)] = &[
+    (TWINS, "", 20, "none\n"),
+    (TWINS, "", 25, "node: 2\n"),
+    (TWINS, "", 26, "leaf: 1\n"),
+    (TWINS, "", 51, "leaf: 0\n"),
+    (TWINS, "", 52, "none\n"),
+    (TWINS, "", 36, "none\n"),
+    (TWINS, "", 23, "none\n"),
+    (TWINS, "", 24, "none\n"),
+    (WRONG_LISTS, "", 23, "node: 5\n"),
+    (WRONG_LISTS, "", 24, "none\n"),
+    (WRONG_HASHES, "", 23, "none\n"),
+    (WRONG_HASHES, "", 24, "node: 5\n"),
+    (TWINS, "6", 25, "none\n"),
+    ("00", "", 25, "none\n"),
+    ("00", "", 24, "none\n"),
+    ("03000000", "", 51, "none\n"),
+    ("06010201700000", "", 20, "node: 0\n"),
+    ("06010201700000", "", 24, "none\n"),
+    ("06010201700000", "", 36, "node: 0\n"),
+    ("zz", "", 36, "none\n"),
+];
+
 #[test]
 fn finds_breaches(rt: HostRuntime) -> Result<(), Fail> {
-    let rows = [
-        (TWINS, "", 20, "none\n"),
-        (TWINS, "", 25, "node: 2\n"),
-        (TWINS, "", 26, "leaf: 1\n"),
-        (TWINS, "", 51, "leaf: 0\n"),
-        (TWINS, "", 52, "none\n"),
-        (TWINS, "", 36, "none\n"),
-        (TWINS, "", 23, "none\n"),
-        (TWINS, "", 24, "none\n"),
-        (WRONG_LISTS, "", 23, "node: 5\n"),
-        (WRONG_LISTS, "", 24, "none\n"),
-        (WRONG_HASHES, "", 23, "none\n"),
-        (WRONG_HASHES, "", 24, "node: 5\n"),
-        (TWINS, "6", 25, "none\n"),
-        ("00", "", 25, "none\n"),
-        ("00", "", 24, "none\n"),
-        ("03000000", "", 51, "none\n"),
-        ("06010201700000", "", 20, "node: 0\n"),
-        ("06010201700000", "", 24, "none\n"),
-        ("06010201700000", "", 36, "node: 0\n"),
-        ("zz", "", 36, "none\n"),
-    ];
-    breaches(&rt, rt.alloc(), &rows)
+    breaches(&rt, rt.alloc(), BREACHES)
 }
+
+const INFO_BREACHES: &[(&str, u8, &str)] = &[
+    (GROUP_INFO, 25, "none\n"),
+    (GROUP_INFO, 36, "node: 0\n"),
+    (GROUP_INFO, 51, "leaf: 0\n"),
+    (GROUP_INFO, 76, "none\n"),
+    (TWINS, 25, "none\n"),
+];
 
 #[test]
 fn finds_breaches_in_group_infos(rt: HostRuntime) -> Result<(), Fail> {
-    let rows = [
-        (GROUP_INFO, 25, "none\n"),
-        (GROUP_INFO, 36, "node: 0\n"),
-        (GROUP_INFO, 51, "leaf: 0\n"),
-        (GROUP_INFO, 76, "none\n"),
-        (TWINS, 25, "none\n"),
-    ];
-    info_breaches(&rt, rt.alloc(), &rows)
+    info_breaches(&rt, rt.alloc(), INFO_BREACHES)
 }
