@@ -20,7 +20,7 @@ pub fn fails_at_line(text: &[u8], room: usize) -> bool {
     ends_line(text.get(room)) || ends_line(text.get(room.wrapping_sub(1)))
 }
 
-/// Whether a writer with so much room has taken just what it can of a text.
+/// Whether a writer with so much room has taken what it can of a text.
 fn holds_front(full: &Full, text: &[u8], room: usize) -> bool {
     full.held.len() == room.min(text.len()) && text.starts_with(full.held.as_slice())
 }
