@@ -1,22 +1,32 @@
 //! Calls on large groups, to count what they cost: `tools/count-work` runs this program under callgrind.
 //!
-//! Standard input is a number of members, and then the program grows a group of so many and prints its last stage; or
-//! such a stage, and then it makes the calls, with a line behind each. A stage has six lines: the number of
-//! members, and in hex the Welcome of the last joiner, a commit of member 0 behind the joiner's first commit, and of
-//! the application messages of member 0 behind that the first, the second and the fourth.
+//! Standard input is a number of members, and then the program builds a group of so many and prints its last stage; or
+//! such a stage, and then it makes the calls, with a line behind each. A stage has ten lines: the number of members,
+//! and in hex the Welcome of the last joiner, a commit of member 0 behind the joiner's first commit, of the
+//! application messages of member 0 behind that the first, the second and the fourth, three proposals of member 0,
+//! and its commit of these.
 
+use crate::built::{build_group, load_member};
 use crate::group::{additions, box_candidate, group_of, join_group};
 use crate::talk::converse;
 use anyhow::{Result, bail};
 use mls_conversation::Conversation;
 use mls_member::{Candidate, Made, Member};
 use mls_suite::Glass;
+use mls_tree::PublicTree;
+use mls_tree_slot::Slot;
 use std::alloc::Global;
 use std::io;
 
+/// The group's name.
+pub(crate) const GROUP: &[u8] = b"bench";
+
+/// How many lines of a stage follow the number of members.
+const LINES: usize = 9;
+
 /// What a seed is for.
 #[derive(Clone, Copy)]
-enum Purpose {
+pub(crate) enum Purpose {
     /// A candidate's keys.
     Candidate,
     /// The group's first epoch.
@@ -25,18 +35,21 @@ enum Purpose {
     Addition,
     /// The path of a joiner's first commit.
     Renewal,
-    /// The path of the last commit of member 0.
+    /// The path of a commit of member 0 behind that.
     LastRenewal,
+    /// The path of a commit with proposals.
+    Proposals,
 }
 
 /// The seed for a purpose and a candidate's number.
-fn seed(purpose: Purpose, number: u32) -> [u8; 32] {
+pub(crate) fn seed(purpose: Purpose, number: u32) -> [u8; 32] {
     let kind = match purpose {
         Purpose::Candidate => 1,
         Purpose::Group => 2,
         Purpose::Addition => 3,
         Purpose::Renewal => 4,
         Purpose::LastRenewal => 5,
+        Purpose::Proposals => 6,
     };
     let [first, second, third, fourth] = number.to_be_bytes();
     let mut seed = [kind; 32];
@@ -48,15 +61,15 @@ fn seed(purpose: Purpose, number: u32) -> [u8; 32] {
 }
 
 /// Makes the candidate of a number.
-fn candidate(alloc: Global, number: u32) -> Result<Box<Candidate<Glass>>> {
+pub(crate) fn candidate(alloc: Global, number: u32) -> Result<Box<Candidate<Glass>>> {
     let identity = number.to_be_bytes();
     box_candidate(alloc, &identity, &seed(Purpose::Candidate, number))
 }
 
 /// Makes a new group of member 0.
-fn create_group(alloc: Global) -> Result<Box<Member<Glass>>> {
+pub(crate) fn create_group(alloc: Global) -> Result<Box<Member<Glass>>> {
     let creator = candidate(alloc, 0)?;
-    group_of(alloc, &creator, b"bench", &seed(Purpose::Group, 0))
+    group_of(alloc, &creator, GROUP, &seed(Purpose::Group, 0))
 }
 
 /// Member 0 adds another, who joins and commits with a path. It answers the Welcome.
@@ -91,21 +104,40 @@ fn print_messages(rt: &impl Print, alloc: Global, member: &Member<Glass>) -> Res
     Ok(())
 }
 
-/// Grows a group, and prints its last stage. Member 0 adds each of the others, so that in the end each leaf has
-/// committed and no parent node is blank.
-fn grow(rt: &impl Print, alloc: Global, members: u32) -> Result<()> {
-    println!(rt; "{members}")?;
-    let mut first = create_group(alloc)?;
-    for number in 1..members {
-        let welcome = add(alloc, &mut first, number)?;
-        if number == members - 1 {
-            println!(rt; "{}", hex::encode(alloc, &welcome)?)?;
-        }
+/// The leaf that removal `turn` of three removes in a group of so many members.
+fn removed_leaf(members: u32, turn: u32) -> u32 {
+    (members / 4).saturating_mul(turn)
+}
+
+/// Prints proposals of a member to remove others, and its commit of these.
+fn print_proposals(
+    rt: &impl Print,
+    alloc: Global,
+    member: &mut Member<Glass>,
+    members: u32,
+) -> Result<()> {
+    for turn in 1..4 {
+        let message = member.propose_remove(removed_leaf(members, turn))?;
+        println!(rt; "{}", hex::encode(alloc, &message)?)?;
     }
+    let kept = member.commit_kept(true, &seed(Purpose::Proposals, 0))?;
+    println!(rt; "{}", hex::encode(alloc, &kept.made.commit)?)?;
+    Ok(())
+}
+
+/// Builds a group, and prints its last stage. Member 0 adds the last of the others, so that in the end each leaf has
+/// committed and no parent node is blank.
+fn build(rt: &impl Print, alloc: Global, members: u32) -> Result<()> {
+    println!(rt; "{members}")?;
+    let last = members.saturating_sub(1);
+    let mut first = build_group(alloc, last)?;
+    let welcome = add(alloc, &mut first, last)?;
+    println!(rt; "{}", hex::encode(alloc, &welcome)?)?;
     let made = first.commit(&[], true, &seed(Purpose::LastRenewal, members))?;
     println!(rt; "{}", hex::encode(alloc, &made.commit)?)?;
     first.process(&made.commit)?;
-    print_messages(rt, alloc, &first)
+    print_messages(rt, alloc, &first)?;
+    print_proposals(rt, alloc, &mut first, members)
 }
 
 /// A member commits with a path and follows that, and then the commit of a far member.
@@ -183,9 +215,92 @@ fn call_joiner(
     Ok(())
 }
 
+/// A member gets three proposals, commits them, and follows another's commit of them.
+fn call_proposals(
+    rt: &impl Print,
+    alloc: Global,
+    member: &mut Member<Glass>,
+    lines: &[&str],
+) -> Result<()> {
+    let [proposals @ .., far] = lines else {
+        bail!("no proposals");
+    };
+    let far = hex::decode(alloc, far)?;
+    for line in proposals {
+        let proposal = hex::decode(alloc, line)?;
+        println!(rt; "before: proposal")?;
+        member.process(&proposal)?;
+        println!(rt; "proposal: {} bytes", proposal.len())?;
+    }
+    let kept = member.commit_kept(true, &seed(Purpose::Proposals, 1))?;
+    println!(rt; "commit with proposals: {} bytes", kept.made.commit.len())?;
+    member.process(&far)?;
+    println!(rt; "far commit with proposals: epoch {}", member.epoch())?;
+    Ok(())
+}
+
+/// A tree is edited.
+fn edit_tree(rt: &impl Print, alloc: Global, tree: &mut PublicTree, number: u32) -> Result<()> {
+    let leaf = removed_leaf(number, 1);
+    let newcomer = candidate(alloc, number)?;
+    let first = newcomer.leaf_node().clone()?;
+    let second = newcomer.leaf_node().clone()?;
+    println!(rt; "before: edits")?;
+    tree.remove(leaf)?;
+    println!(rt; "removal: leaf {leaf}")?;
+    let added = tree.add(first)?;
+    println!(rt; "addition: leaf {added}")?;
+    tree.update(leaf, second)?;
+    println!(rt; "update: leaf {leaf}")?;
+    tree.tree_hash();
+    println!(rt; "tree hash then: {} leaves", tree.leaf_count())?;
+    Ok(())
+}
+
+/// A tree is made of nodes.
+fn read_tree(rt: &impl Print, nodes: Vec<Slot>) -> Result<()> {
+    println!(rt; "before: nodes")?;
+    let mut tree = PublicTree::from_nodes(nodes)?;
+    println!(rt; "from_nodes: {} leaves", tree.leaf_count())?;
+    tree.tree_hash();
+    println!(rt; "tree hash: {} leaves", tree.leaf_count())?;
+    drop(tree);
+    println!(rt; "drop of that: done")?;
+    Ok(())
+}
+
+/// The tree of a member is copied, checked and edited, and made of its nodes.
+fn call_tree(rt: &impl Print, alloc: Global, member: &Member<Glass>, number: u32) -> Result<()> {
+    member.group().is_short();
+    let tree = member.group().tree();
+    println!(rt; "before: tree")?;
+    let mut copy = tree.clone()?;
+    println!(rt; "copy of the tree: {} leaves", copy.leaf_count())?;
+    copy.check::<Glass>(GROUP)?;
+    println!(rt; "check: {} members", copy.member_count())?;
+    edit_tree(rt, alloc, &mut copy, number)?;
+    println!(rt; "before: drop")?;
+    drop(copy);
+    println!(rt; "drop of the copy: done")?;
+    read_tree(rt, tree.to_nodes()?)
+}
+
+/// A member is saved and loaded, and what was loaded adds one more, where the tree has a leaf for it.
+fn call_saved(rt: &impl Print, alloc: Global, member: &Member<Glass>, next: u32) -> Result<()> {
+    println!(rt; "before: saving")?;
+    let saved = member.save()?;
+    println!(rt; "save: {} bytes", saved.len())?;
+    let mut loaded = load_member(alloc, &saved)?;
+    println!(rt; "load: epoch {}", loaded.epoch())?;
+    if next.is_power_of_two() {
+        return Ok(());
+    }
+    call_joiner(rt, alloc, &mut loaded, next)
+}
+
 /// Makes the calls as the last joiner, of whose stage the lines are the rest. One more member is added, and joins,
 /// where the tree has a leaf for it.
-fn call(rt: &impl Print, alloc: Global, number: u32, lines: &[&str; 5]) -> Result<()> {
+fn call(rt: &impl Print, alloc: Global, number: u32, lines: &[&str; LINES]) -> Result<()> {
     let welcome = hex::decode(alloc, lines[0])?;
     let far = hex::decode(alloc, lines[1])?;
     let candidate = candidate(alloc, number)?;
@@ -195,10 +310,9 @@ fn call(rt: &impl Print, alloc: Global, number: u32, lines: &[&str; 5]) -> Resul
     call_member(rt, &mut member, number, &far)?;
     call_conversation(rt, alloc, &member, &[lines[2], lines[3], lines[4]])?;
     let next = number.saturating_add(1);
-    if next.is_power_of_two() {
-        return Ok(());
-    }
-    call_joiner(rt, alloc, &mut member, next)
+    call_tree(rt, alloc, &member, next)?;
+    call_saved(rt, alloc, &member, next)?;
+    call_proposals(rt, alloc, &mut member, &lines[5..])
 }
 
 /// Does what the lines ask for.
@@ -209,9 +323,9 @@ fn serve(rt: &impl Print, alloc: Global, text: &str) -> Result<()> {
     };
     let members = first.trim().parse::<u32>()?;
     let Some(second) = lines.next() else {
-        return grow(rt, alloc, members);
+        return build(rt, alloc, members);
     };
-    let mut rest = [second; 5];
+    let mut rest = [second; LINES];
     for line in &mut rest[1..] {
         let Some(next) = lines.next() else {
             bail!("the stage ends too early");

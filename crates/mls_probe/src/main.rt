@@ -12,6 +12,7 @@ ghost use Rattle.mls_member.specs.Answers.{IsShortItem};
 ghost use Rattle.mls_probe.specs.Calls.{IsShortCall};
 
 mod bench;
+mod built;
 mod call;
 mod extended;
 mod group;
