@@ -90,6 +90,28 @@ pub fn removal(alloc: Global) -> Result<Vec<Act>, AllocError> {
     Ok(acts)
 }
 
+/// Of three the second proposes extensions for the group (message 5), which the first commits by its reference (message
+/// 6); then the third adds a fourth, with a path (commit 8, Welcome 9).
+pub fn extensions(alloc: Global) -> Result<Vec<Act>, AllocError> {
+    let mut acts = three(alloc)?;
+    acts.extend_from_slice(&[
+        Act::Extensions { member: 1 },
+        deliver(0, 5),
+        deliver(2, 5),
+        commit(0, Parts::Named(5), false, 6),
+        deliver(0, 6),
+        deliver(1, 6),
+        deliver(2, 6),
+        candidate_named(b'd', 7),
+        commit(2, additions_from(7, 1), true, 8),
+        deliver(2, 8),
+        deliver(0, 8),
+        deliver(1, 8),
+        join(3, 9),
+    ])?;
+    Ok(acts)
+}
+
 /// One member adds four without a path (commit 6, Welcome 7) and removes the fourth member (8).
 fn add_four_and_remove(alloc: Global) -> Result<Vec<Act>, AllocError> {
     Ok(vec![in alloc;

@@ -60,5 +60,11 @@ pub fn run(rt: &impl Print, alloc: Global) -> Result<()> {
     print_group(rt, alloc, "a pair", groups::pair(alloc)?)?;
     print_group(rt, alloc, "an update among three", groups::update(alloc)?)?;
     print_group(rt, alloc, "a removal among three", groups::removal(alloc)?)?;
+    print_group(
+        rt,
+        alloc,
+        "extensions among three",
+        groups::extensions(alloc)?,
+    )?;
     print_group(rt, alloc, "four adds", groups::four_adds(alloc)?)
 }
