@@ -33,7 +33,7 @@ use Rattle.mls_model.specs.Propose.{propose_add, propose_update, propose_remove,
 use Rattle.mls_model.specs.Verdict.{verdict}
 use Rattle.mls_model.specs.declared.effect.Effect.{Effect}
 use Rattle.mls_model.specs.declared.effect.Effect.TheVariants.{Proposed, Known, Advanced, Removed}
-use Rattle.mls_member.specs.GroupMembers.{group_member}
+use Rattle.mls_member.specs.GroupMembers.{GroupMember, group_member}
 use Rattle.mls_member.specs.KeptTogether.{kept_list}
 use Rattle.mls_member.specs.Saved.{saved_of, load, FitsInput}
 use Rattle.mls_c.specs.Faults.{number_of}
@@ -54,6 +54,22 @@ Answer = Result (Fruits × Shown) ℕ
 -- definition's, unless memory was refused.
 abbrev pub Does : Answer → Shown → Done → Type 0
 Does defined old done = DoesAs fruits (λ n. n) defined old (shown done.held) done.outcome
+
+-- A call that takes no memory does exactly what the definition says.
+abbrev pub IsExactly : Answer → Shown → Shown → Result Fruit ℕ → Type 0
+IsExactly defined old new (Ok f) = defined ≡ Ok (fruits f, new)
+IsExactly defined old new (Err n) = (new ≡ old) × (defined ≡ Err n)
+
+abbrev pub DoesExactly : Answer → Shown → Done → Type 0
+DoesExactly defined old done = IsExactly defined old (shown done.held) done.outcome
+
+-- What these checks refuse is refused with their number, also when an allocation fails.
+abbrev pub RefusesEarly : {A B : Type 0} → Result A ℕ → Result B ℕ → Type 0
+RefusesEarly checks outcome = (n : ℕ) → checks ≡ Err n → outcome ≡ Err n
+
+-- The call does what the definition says, behind these checks.
+abbrev pub DoesBehind : {A : Type 0} → Result A ℕ → Answer → Shown → Done → Type 0
+DoesBehind checks defined old done = Does defined old done × RefusesEarly checks done.outcome
 
 -- A call on a member or a conversation does what the definition says. A refusal changes nothing,
 -- and its number is the definition's, unless memory was refused.
@@ -93,6 +109,22 @@ some_bytes (bytes xs) = Ok xs
 some_bytes (candidate k) = Err (number_of OtherHandle)
 some_bytes (member m) = Err (number_of OtherHandle)
 some_bytes (conversation s) = Err (number_of OtherHandle)
+
+-- a candidate, and what else is checked
+abbrev pub behind_candidate : {A : Type 0} → Shown → Result A ℕ → Result A ℕ
+behind_candidate held next = a_candidate held >>= λ k. next
+
+-- a member, and what else is checked
+abbrev pub behind_member : {A : Type 0} → Shown → Result A ℕ → Result A ℕ
+behind_member held next = a_member held >>= λ m. next
+
+-- a conversation, and what else is checked
+abbrev pub behind_conversation : {A : Type 0} → Shown → Result A ℕ → Result A ℕ
+behind_conversation held next = a_conversation held >>= λ s. next
+
+-- a text, and what else is checked
+abbrev pub behind_text : {A : Type 0} → Text → Result A ℕ → Result A ℕ
+behind_text given next = given >>= λ xs. next
 
 -- a member is taken out of what holds it, or there is none
 abbrev pub TakesMember : Held → Result Member (Held × ℕ) → Type 0
@@ -242,6 +274,10 @@ make_group held group seed =
 unfoldable pub member_create : Shown → Text → Text → Answer
 member_create held group seed = make_group held group seed >>= λ x. Ok (x, held)
 
+-- a candidate, and what else a group is made of
+abbrev pub group_given : Shown → Text → Text → Result (List ℕ) ℕ
+group_given held group seed = behind_candidate held (behind_text group (a_seed seed))
+
 -- the member that a Welcome makes of a candidate
 unfoldable pub make_joiner : Shown → Text → Result Fruits ℕ
 make_joiner held welcome =
@@ -359,6 +395,9 @@ SavesIfMember (Err n) outcome = Makes (Err n) outcome
 abbrev pub SavesHeld : Shown → Done → Type 0
 SavesHeld old done = SavesIfMember (a_member old) done.outcome × (shown done.held ≡ old)
 
+abbrev pub SavesBehind : Shown → Done → Type 0
+SavesBehind old done = SavesHeld old done × RefusesEarly (a_member old) done.outcome
+
 -- the number of its leaves
 unfoldable pub member_leaf_count : Shown → Answer
 member_leaf_count held = a_member held >>= λ m. Ok (tells (width m.public.tree), held)
@@ -380,6 +419,17 @@ make_identity held leaf = a_member held
 
 unfoldable pub member_at : Shown → ℕ → Answer
 member_at held leaf = make_identity held leaf >>= λ x. Ok (x, held)
+
+-- a member, and a leaf at which there is one: `NoSuchLeaf` (22) there is none
+abbrev pub a_place : Shown → ℕ → Result GroupMember ℕ
+a_place held leaf = a_member held
+    >>= λ m. a_leaf leaf
+    >>= λ i. require_some 22 (group_member m.public.tree i)
+
+-- what an export is given
+abbrev pub export_given : Shown → Text → Text → ℕ → Result ℕ ℕ
+export_given held label context n =
+    behind_member held (a_label label >>= λ l. behind_text context (an_output n))
 
 -- a secret of n bytes, exported under a label and a context
 unfoldable pub make_export : Shown → Text → Text → ℕ → Result Fruits ℕ
@@ -410,6 +460,11 @@ make_conversation held =
 
 unfoldable pub conversation_new : Shown → Answer
 conversation_new held = make_conversation held >>= λ x. Ok (x, held)
+
+-- what is sealed, and a seed
+abbrev pub sealing_given : Text → Text → Text → Result (List ℕ) ℕ
+sealing_given data_given authenticated seed =
+    behind_text data_given (behind_text authenticated (a_seed seed))
 
 -- it seals data, with authenticated data and so many bytes of padding
 unfoldable pub seal_data : Text → Text → ℕ → Text → State → Result (Fruits × State) ℕ

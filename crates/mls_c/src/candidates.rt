@@ -1,7 +1,7 @@
 //! Calls on bytes, and calls that make candidates and members.
 
 ghost use Rattle.std.specs.Prelude.{◌≡◌};
-ghost use Rattle.mls_c.specs.Calls.{Does, Makes, bytes_at, bytes_length, candidate_new, candidate_key_package, make_candidate, make_group, make_group_id, make_joiner, make_package, member_create, member_epoch, member_group_id, member_join, member_leaf_index};
+ghost use Rattle.mls_c.specs.Calls.{Does, Makes, bytes_at, bytes_length, candidate_new, candidate_key_package, make_candidate, make_group, make_group_id, make_joiner, make_package, member_create, member_epoch, member_group_id, member_join, member_leaf_index, DoesExactly, RefusesEarly, a_candidate, a_member, a_seed, behind_candidate, behind_text, group_given};
 ghost use Rattle.mls_c.specs.Given.{text};
 ghost use Rattle.mls_c.specs.Shown.{shown};
 ghost use Rattle.mls_c.specs.declared.held.Held.TheVariants.{Nothing};
@@ -18,7 +18,7 @@ use std::alloc::Global;
 /// The length of bytes.
 #[tactic(auto, unfolding(crate::specs::Calls::bytes_length))]
 pub(crate) fn bytes_length(held: Held) -> Done
-    ensures does { Does (bytes_length (shown held)) (shown held) result }
+    ensures does { DoesExactly (bytes_length (shown held)) (shown held) result }
     ensures stays { held ≡ Nothing → result.held ≡ Nothing }
 {
     let outcome = match bytes_of(&held) {
@@ -31,7 +31,8 @@ pub(crate) fn bytes_length(held: Held) -> Done
 /// A candidate in a handle of its own.
 #[tactic(auto, unfolding(crate::specs::Calls::make_candidate))]
 fn make_candidate(alloc: Global, identity: &Given, seed: &Given) -> Result<Fruit, u32>
-    ensures { Makes (make_candidate (text identity.now) (text seed.now)) result }
+    ensures made { Makes (make_candidate (text identity.now) (text seed.now)) result }
+    ensures early { RefusesEarly (behind_text (text identity.now) (a_seed (text seed.now))) result }
 {
     let identity = bytes_in(identity)?;
     let seed = seed_of(seed)?;
@@ -47,6 +48,8 @@ fn make_candidate(alloc: Global, identity: &Given, seed: &Given) -> Result<Fruit
 pub(crate) fn candidate_new(alloc: Global, held: Held, identity: &Given, seed: &Given) -> Done
     ensures does { Does (candidate_new (shown held) (text identity.now) (text seed.now))
         (shown held) result }
+    ensures early { RefusesEarly
+        (behind_text (text identity.now) (a_seed (text seed.now))) result.outcome }
     ensures stays { held ≡ Nothing → result.held ≡ Nothing }
 {
     let outcome = make_candidate(alloc, identity, seed);
@@ -56,7 +59,8 @@ pub(crate) fn candidate_new(alloc: Global, held: Held, identity: &Given, seed: &
 /// The message of a candidate's KeyPackage in a handle.
 #[tactic(auto, unfolding(crate::specs::Calls::make_package))]
 fn make_package(alloc: Global, held: &Held) -> Result<Fruit, u32>
-    ensures { Makes (make_package (shown held.now)) result }
+    ensures made { Makes (make_package (shown held.now)) result }
+    ensures early { RefusesEarly (a_candidate (shown held.now)) result }
 {
     let candidate = candidate_of(held)?;
     fill_copy(alloc, candidate.message())
@@ -66,6 +70,7 @@ fn make_package(alloc: Global, held: &Held) -> Result<Fruit, u32>
 #[tactic(auto, unfolding(crate::specs::Calls::candidate_key_package))]
 pub(crate) fn candidate_key_package(alloc: Global, held: Held) -> Done
     ensures does { Does (candidate_key_package (shown held)) (shown held) result }
+    ensures early { RefusesEarly (a_candidate (shown held)) result.outcome }
     ensures stays { held ≡ Nothing → result.held ≡ Nothing }
 {
     let outcome = make_package(alloc, &held);
@@ -75,7 +80,8 @@ pub(crate) fn candidate_key_package(alloc: Global, held: Held) -> Done
 /// The group of a candidate alone, in a handle.
 #[tactic(auto, unfolding(crate::specs::Calls::make_group))]
 fn make_group(alloc: Global, held: &Held, group: &Given, seed: &Given) -> Result<Fruit, u32>
-    ensures { Makes (make_group (shown held.now) (text group.now) (text seed.now)) result }
+    ensures made { Makes (make_group (shown held.now) (text group.now) (text seed.now)) result }
+    ensures early { RefusesEarly (group_given (shown held.now) (text group.now) (text seed.now)) result }
 {
     let candidate = candidate_of(held)?;
     let group = bytes_in(group)?;
@@ -92,6 +98,8 @@ fn make_group(alloc: Global, held: &Held, group: &Given, seed: &Given) -> Result
 pub(crate) fn member_create(alloc: Global, held: Held, group: &Given, seed: &Given) -> Done
     ensures does { Does (member_create (shown held) (text group.now) (text seed.now))
         (shown held) result }
+    ensures early { RefusesEarly (group_given (shown held) (text group.now) (text seed.now))
+        result.outcome }
     ensures stays { held ≡ Nothing → result.held ≡ Nothing }
 {
     let outcome = make_group(alloc, &held, group, seed);
@@ -101,7 +109,8 @@ pub(crate) fn member_create(alloc: Global, held: Held, group: &Given, seed: &Giv
 /// The member that a Welcome makes of a candidate, in a handle.
 #[tactic(auto, unfolding(crate::specs::Calls::make_joiner))]
 fn make_joiner(alloc: Global, held: &Held, welcome: &Given) -> Result<Fruit, u32>
-    ensures { Makes (make_joiner (shown held.now) (text welcome.now)) result }
+    ensures made { Makes (make_joiner (shown held.now) (text welcome.now)) result }
+    ensures early { RefusesEarly (behind_candidate (shown held.now) (text welcome.now)) result }
 {
     let candidate = candidate_of(held)?;
     let welcome = bytes_in(welcome)?;
@@ -116,6 +125,7 @@ fn make_joiner(alloc: Global, held: &Held, welcome: &Given) -> Result<Fruit, u32
 #[tactic(auto, unfolding(crate::specs::Calls::member_join))]
 pub(crate) fn member_join(alloc: Global, held: Held, welcome: &Given) -> Done
     ensures does { Does (member_join (shown held) (text welcome.now)) (shown held) result }
+    ensures early { RefusesEarly (behind_candidate (shown held) (text welcome.now)) result.outcome }
     ensures stays { held ≡ Nothing → result.held ≡ Nothing }
 {
     let outcome = make_joiner(alloc, &held, welcome);
@@ -125,7 +135,7 @@ pub(crate) fn member_join(alloc: Global, held: Held, welcome: &Given) -> Done
 /// The number of a member's epoch.
 #[tactic(auto, unfolding(crate::specs::Calls::member_epoch))]
 pub(crate) fn member_epoch(held: Held) -> Done
-    ensures does { Does (member_epoch (shown held)) (shown held) result }
+    ensures does { DoesExactly (member_epoch (shown held)) (shown held) result }
     ensures stays { held ≡ Nothing → result.held ≡ Nothing }
 {
     let outcome = match member_of(&held) {
@@ -138,7 +148,8 @@ pub(crate) fn member_epoch(held: Held) -> Done
 /// The identifier of a member's group in a handle.
 #[tactic(auto, unfolding(crate::specs::Calls::make_group_id))]
 fn make_group_id(alloc: Global, held: &Held) -> Result<Fruit, u32>
-    ensures { Makes (make_group_id (shown held.now)) result }
+    ensures made { Makes (make_group_id (shown held.now)) result }
+    ensures early { RefusesEarly (a_member (shown held.now)) result }
 {
     let member = member_of(held)?;
     fill_copy(alloc, member.group_id())
@@ -148,6 +159,7 @@ fn make_group_id(alloc: Global, held: &Held) -> Result<Fruit, u32>
 #[tactic(auto, unfolding(crate::specs::Calls::member_group_id))]
 pub(crate) fn member_group_id(alloc: Global, held: Held) -> Done
     ensures does { Does (member_group_id (shown held)) (shown held) result }
+    ensures early { RefusesEarly (a_member (shown held)) result.outcome }
     ensures stays { held ≡ Nothing → result.held ≡ Nothing }
 {
     let outcome = make_group_id(alloc, &held);
@@ -157,7 +169,7 @@ pub(crate) fn member_group_id(alloc: Global, held: Held) -> Done
 /// The index of a member's leaf.
 #[tactic(auto, unfolding(crate::specs::Calls::member_leaf_index))]
 pub(crate) fn member_leaf_index(held: Held) -> Done
-    ensures does { Does (member_leaf_index (shown held)) (shown held) result }
+    ensures does { DoesExactly (member_leaf_index (shown held)) (shown held) result }
     ensures stays { held ≡ Nothing → result.held ≡ Nothing }
 {
     let outcome = match member_of(&held) {
@@ -170,7 +182,7 @@ pub(crate) fn member_leaf_index(held: Held) -> Done
 /// The byte at an index, or `BufferLength` (135).
 #[tactic(auto, unfolding(crate::specs::Calls::bytes_at))]
 pub(crate) fn bytes_at(held: Held, index: u64) -> Done
-    ensures does { Does (bytes_at (shown held) index) (shown held) result }
+    ensures does { DoesExactly (bytes_at (shown held) index) (shown held) result }
     ensures stays { held ≡ Nothing → result.held ≡ Nothing }
 {
     let outcome = match bytes_of(&held) {

@@ -4,7 +4,7 @@ ghost use Rattle.std.specs.Prelude.{◌≡◌, option_map, map, IfOk};
 ghost use Rattle.mls_wire.specs.Checks.{Answers};
 ghost use Rattle.mls_model.specs.Make.{list_item_of};
 ghost use Rattle.mls_member.specs.Answers.{IsShortItem, AreShortItems};
-ghost use Rattle.mls_c.specs.Calls.{Changes, Does, commit_kept_list, commit_given_list, member_commit, member_commit_kept, on_member, some_proposals};
+ghost use Rattle.mls_c.specs.Calls.{Changes, Does, commit_kept_list, commit_given_list, member_commit, member_commit_kept, on_member, some_proposals, RefusesEarly, a_seed, behind_member};
 ghost use Rattle.mls_c.specs.Given.{text};
 ghost use Rattle.mls_c.specs.Listing.{IsShortListed, AreShortListed, ListsItems};
 ghost use Rattle.mls_c.specs.Shown.{shown};
@@ -38,8 +38,9 @@ fn commit_kept_list(
     path: u64,
     seed: &Given,
 ) -> Result<Fruit, u32>
-    ensures { Changes (commit_kept_list path (text seed.now) member.old)
+    ensures does { Changes (commit_kept_list path (text seed.now) member.old)
         member.old member.new result }
+    ensures early { RefusesEarly (a_seed (text seed.now)) result }
 {
     let seed = seed_of(seed)?;
     let commit_room = room(alloc)?;
@@ -58,6 +59,8 @@ fn commit_kept_list(
 #[tactic(auto, unfolding(crate::specs::Calls::member_commit_kept, crate::specs::Calls::on_member, crate::specs::Calls::a_member))]
 pub(crate) fn member_commit_kept(alloc: Global, held: Held, path: u64, seed: &Given) -> Done
     ensures does { Does (member_commit_kept (shown held) path (text seed.now)) (shown held) result }
+    ensures early { RefusesEarly
+        (behind_member (shown held) (a_seed (text seed.now))) result.outcome }
     ensures stays { held ≡ Nothing → result.held ≡ Nothing }
 {
     match take_member(held) {
@@ -73,6 +76,7 @@ pub(crate) fn member_commit_kept(alloc: Global, held: Held, path: u64, seed: &Gi
 #[tactic(auto, using(crate::proofs::Decoded::fault_of, crate::proofs::Listing::read_short), unfolding(crate::specs::Calls::some_proposals))]
 fn list_of(alloc: Global, proposals: &Given) -> Result<Items<ProposalOrRef>, u32>
     ensures list { Answers (λ l. l) (λ n. n) (some_proposals (text proposals.now)) result }
+    ensures early { RefusesEarly (text proposals.now) result }
     ensures short { IfOk result (λ l. AreShortListed l) }
 {
     let bytes = bytes_in(proposals)?;
@@ -115,6 +119,7 @@ fn items_of(alloc: Global, list: &[ProposalOrRef]) -> Result<Vec<Item>, AllocErr
 /// The list of a commit in bytes, as a commit call takes it.
 fn given_items(alloc: Global, proposals: &Given) -> Result<Vec<Item>, u32>
     ensures items { ListsItems (some_proposals (text proposals.now)) result }
+    ensures early { RefusesEarly (text proposals.now) result }
     ensures short { IfOk result (λ v. AreShortItems v.items) }
 {
     let list = list_of(alloc, proposals)?;
@@ -133,8 +138,9 @@ fn commit_given_list(
     path: u64,
     seed: &Given,
 ) -> Result<Fruit, u32>
-    ensures { Changes (commit_given_list (text proposals.now) path (text seed.now) member.old)
+    ensures does { Changes (commit_given_list (text proposals.now) path (text seed.now) member.old)
         member.old member.new result }
+    ensures early { RefusesEarly (text proposals.now) result }
 {
     let items = given_items(alloc, proposals)?;
     let seed = seed_of(seed)?;
@@ -161,6 +167,7 @@ pub(crate) fn member_commit(
 ) -> Done
     ensures does { Does (member_commit (shown held) (text proposals.now) path (text seed.now))
         (shown held) result }
+    ensures early { RefusesEarly (behind_member (shown held) (text proposals.now)) result.outcome }
     ensures stays { held ≡ Nothing → result.held ≡ Nothing }
 {
     match take_member(held) {

@@ -1,7 +1,7 @@
 //! Calls on conversations.
 
 ghost use Rattle.std.specs.Prelude.{◌≡◌};
-ghost use Rattle.mls_c.specs.Calls.{Changes, Does, Makes, a_seed, conversation_new, conversation_open, conversation_seal, make_conversation, on_conversation, open_data, seal_data};
+ghost use Rattle.mls_c.specs.Calls.{Changes, Does, Makes, a_seed, conversation_new, conversation_open, conversation_seal, make_conversation, on_conversation, open_data, seal_data, RefusesEarly, a_member, behind_conversation, sealing_given};
 ghost use Rattle.mls_c.specs.Given.{text};
 ghost use Rattle.mls_c.specs.Shown.{shown};
 ghost use Rattle.mls_c.specs.declared.held.Held.TheVariants.{Nothing};
@@ -17,7 +17,8 @@ use std::alloc::Global;
 /// The conversation of a member, in a handle.
 #[tactic(auto, unfolding(crate::specs::Calls::make_conversation))]
 fn make_conversation(alloc: Global, held: &Held) -> Result<Fruit, u32>
-    ensures { Makes (make_conversation (shown held.now)) result }
+    ensures made { Makes (make_conversation (shown held.now)) result }
+    ensures early { RefusesEarly (a_member (shown held.now)) result }
 {
     let member = member_of(held)?;
     let room = room(alloc)?;
@@ -31,6 +32,7 @@ fn make_conversation(alloc: Global, held: &Held) -> Result<Fruit, u32>
 #[tactic(auto, unfolding(crate::specs::Calls::conversation_new))]
 pub(crate) fn conversation_new(alloc: Global, held: Held) -> Done
     ensures does { Does (conversation_new (shown held)) (shown held) result }
+    ensures early { RefusesEarly (a_member (shown held)) result.outcome }
     ensures stays { held ≡ Nothing → result.held ≡ Nothing }
 {
     let outcome = make_conversation(alloc, &held);
@@ -47,8 +49,10 @@ fn seal_data(
     authenticated_data: &Given,
     seed: &Given,
 ) -> Result<Fruit, u32>
-    ensures { Changes (seal_data (text application_data.now) (text authenticated_data.now) padding
+    ensures does { Changes (seal_data (text application_data.now) (text authenticated_data.now) padding
         (text seed.now) conversation.old) conversation.old conversation.new result }
+    ensures early { RefusesEarly (sealing_given (text application_data.now)
+        (text authenticated_data.now) (text seed.now)) result }
 {
     let application_data = bytes_in(application_data)?;
     let authenticated_data = bytes_in(authenticated_data)?;
@@ -77,6 +81,9 @@ pub(crate) fn conversation_seal(
 ) -> Done
     ensures does { Does (conversation_seal (shown held) padding (text application_data.now)
         (text authenticated_data.now) (text seed.now)) (shown held) result }
+    ensures early { RefusesEarly
+        (behind_conversation (shown held) (sealing_given (text application_data.now)
+        (text authenticated_data.now) (text seed.now))) result.outcome }
     ensures stays { held ≡ Nothing → result.held ≡ Nothing }
 {
     match take_conversation(held) {
@@ -102,8 +109,9 @@ fn open_data(
     conversation: &mut Conversation<Suite0001>,
     message: &Given,
 ) -> Result<Fruit, u32>
-    ensures { Changes (open_data (text message.now) conversation.old)
+    ensures does { Changes (open_data (text message.now) conversation.old)
         conversation.old conversation.new result }
+    ensures early { RefusesEarly (text message.now) result }
 {
     let message = bytes_in(message)?;
     let data_room = room(alloc)?;
@@ -124,6 +132,8 @@ fn open_data(
 #[tactic(auto, unfolding(crate::specs::Calls::conversation_open, crate::specs::Calls::on_conversation, crate::specs::Calls::a_conversation))]
 pub(crate) fn conversation_open(alloc: Global, held: Held, message: &Given) -> Done
     ensures does { Does (conversation_open (shown held) (text message.now)) (shown held) result }
+    ensures early { RefusesEarly
+        (behind_conversation (shown held) (text message.now)) result.outcome }
     ensures stays { held ≡ Nothing → result.held ≡ Nothing }
 {
     match take_conversation(held) {

@@ -2,7 +2,7 @@
 
 ghost use Rattle.std.specs.Prelude.{◌≡◌};
 ghost use Rattle.mls_wire.specs.Checks.{Answers, AnswersOutright};
-ghost use Rattle.mls_c.specs.Calls.{Changes, Does, a_package, propose_package, effect_number, member_process, member_propose_add, member_propose_update, on_member, package_in, follow_message, propose_key, propose_removal, member_propose_remove, forget_pending, member_drop_pending, propose_extension_list, some_extensions, member_propose_extensions};
+ghost use Rattle.mls_c.specs.Calls.{Changes, Does, a_package, propose_package, effect_number, member_process, member_propose_add, member_propose_update, on_member, package_in, follow_message, propose_key, propose_removal, member_propose_remove, forget_pending, member_drop_pending, propose_extension_list, some_extensions, member_propose_extensions, DoesExactly, RefusesEarly, a_leaf, a_seed, behind_member};
 ghost use Rattle.mls_model.specs.Messages.{decode_message};
 ghost use Rattle.mls_c.specs.Given.{text};
 ghost use Rattle.mls_c.specs.Shown.{fruits, shown};
@@ -33,7 +33,8 @@ fn effect_number(effect: Effect) -> u64
 /// What a message does to a member.
 #[tactic(auto, unfolding(crate::specs::Calls::follow_message))]
 fn follow_message(member: &mut Member<Suite0001>, message: &Given) -> Result<Fruit, u32>
-    ensures { Changes (follow_message (text message.now) member.old) member.old member.new result }
+    ensures does { Changes (follow_message (text message.now) member.old) member.old member.new result }
+    ensures early { RefusesEarly (text message.now) result }
 {
     let message = bytes_in(message)?;
     match member.process(message) {
@@ -46,6 +47,7 @@ fn follow_message(member: &mut Member<Suite0001>, message: &Given) -> Result<Fru
 #[tactic(auto, unfolding(crate::specs::Calls::member_process, crate::specs::Calls::on_member, crate::specs::Calls::a_member))]
 pub(crate) fn member_process(held: Held, message: &Given) -> Done
     ensures does { Does (member_process (shown held) (text message.now)) (shown held) result }
+    ensures early { RefusesEarly (behind_member (shown held) (text message.now)) result.outcome }
     ensures stays { held ≡ Nothing → result.held ≡ Nothing }
 {
     match take_member(held) {
@@ -73,7 +75,8 @@ fn package_in(message: MlsMessage) -> Result<KeyPackage, u32>
 /// A proposal of a new key for a member's leaf.
 #[tactic(auto, unfolding(crate::specs::Calls::propose_key))]
 fn propose_key(alloc: Global, member: &mut Member<Suite0001>, seed: &Given) -> Result<Fruit, u32>
-    ensures { Changes (propose_key (text seed.now) member.old) member.old member.new result }
+    ensures does { Changes (propose_key (text seed.now) member.old) member.old member.new result }
+    ensures early { RefusesEarly (a_seed (text seed.now)) result }
 {
     let seed = seed_of(seed)?;
     let room = room(alloc)?;
@@ -87,6 +90,8 @@ fn propose_key(alloc: Global, member: &mut Member<Suite0001>, seed: &Given) -> R
 #[tactic(auto, unfolding(crate::specs::Calls::member_propose_update, crate::specs::Calls::on_member, crate::specs::Calls::a_member))]
 pub(crate) fn member_propose_update(alloc: Global, held: Held, seed: &Given) -> Done
     ensures does { Does (member_propose_update (shown held) (text seed.now)) (shown held) result }
+    ensures early { RefusesEarly
+        (behind_member (shown held) (a_seed (text seed.now))) result.outcome }
     ensures stays { held ≡ Nothing → result.held ≡ Nothing }
 {
     match take_member(held) {
@@ -112,7 +117,8 @@ fn message_of(alloc: Global, bytes: &[u8]) -> Result<MlsMessage, u32>
 /// The KeyPackage in bytes. One that was decoded is short, so what refuses it then is memory alone.
 #[tactic(auto, unfolding(crate::specs::Calls::a_package))]
 fn package_of(alloc: Global, bytes: &Given) -> Result<ShortKeyPackage, u32>
-    ensures { Answers (λ k. k) (λ n. n) (a_package (text bytes.now)) result }
+    ensures package { Answers (λ k. k) (λ n. n) (a_package (text bytes.now)) result }
+    ensures early { RefusesEarly (text bytes.now) result }
 {
     let bytes = bytes_in(bytes)?;
     let message = message_of(alloc, bytes)?;
@@ -130,8 +136,9 @@ fn propose_package(
     member: &mut Member<Suite0001>,
     key_package: &Given,
 ) -> Result<Fruit, u32>
-    ensures { Changes (propose_package (text key_package.now) member.old)
+    ensures does { Changes (propose_package (text key_package.now) member.old)
         member.old member.new result }
+    ensures early { RefusesEarly (text key_package.now) result }
 {
     let key_package = package_of(alloc, key_package)?;
     let room = room(alloc)?;
@@ -146,6 +153,8 @@ fn propose_package(
 pub(crate) fn member_propose_add(alloc: Global, held: Held, key_package: &Given) -> Done
     ensures does { Does (member_propose_add (shown held) (text key_package.now))
         (shown held) result }
+    ensures early { RefusesEarly
+        (behind_member (shown held) (text key_package.now)) result.outcome }
     ensures stays { held ≡ Nothing → result.held ≡ Nothing }
 {
     match take_member(held) {
@@ -160,7 +169,8 @@ pub(crate) fn member_propose_add(alloc: Global, held: Held, key_package: &Given)
 /// A proposal to remove a leaf.
 #[tactic(auto, unfolding(crate::specs::Calls::propose_removal))]
 fn propose_removal(alloc: Global, member: &mut Member<Suite0001>, leaf: u64) -> Result<Fruit, u32>
-    ensures { Changes (propose_removal leaf member.old) member.old member.new result }
+    ensures does { Changes (propose_removal leaf member.old) member.old member.new result }
+    ensures early { RefusesEarly (a_leaf leaf) result }
 {
     let leaf = leaf_of(leaf)?;
     let room = room(alloc)?;
@@ -174,6 +184,7 @@ fn propose_removal(alloc: Global, member: &mut Member<Suite0001>, leaf: u64) -> 
 #[tactic(auto, unfolding(crate::specs::Calls::member_propose_remove, crate::specs::Calls::on_member, crate::specs::Calls::a_member))]
 pub(crate) fn member_propose_remove(alloc: Global, held: Held, leaf: u64) -> Done
     ensures does { Does (member_propose_remove (shown held) leaf) (shown held) result }
+    ensures early { RefusesEarly (behind_member (shown held) (a_leaf leaf)) result.outcome }
     ensures stays { held ≡ Nothing → result.held ≡ Nothing }
 {
     match take_member(held) {
@@ -188,7 +199,7 @@ pub(crate) fn member_propose_remove(alloc: Global, held: Held, leaf: u64) -> Don
 /// The pending commit of a handle's member is forgotten.
 #[tactic(auto, unfolding(crate::specs::Calls::member_drop_pending, crate::specs::Calls::on_member, crate::specs::Calls::a_member, crate::specs::Calls::forget_pending))]
 pub(crate) fn member_drop_pending(held: Held) -> Done
-    ensures does { Does (member_drop_pending (shown held)) (shown held) result }
+    ensures does { DoesExactly (member_drop_pending (shown held)) (shown held) result }
     ensures stays { held ≡ Nothing → result.held ≡ Nothing }
 {
     match take_member(held) {
@@ -203,7 +214,8 @@ pub(crate) fn member_drop_pending(held: Held) -> Done
 /// The extensions in bytes.
 #[tactic(auto, using(crate::proofs::Decoded::fault_of), unfolding(crate::specs::Calls::some_extensions))]
 fn extensions_of(alloc: Global, extensions: &Given) -> Result<GroupExtensions, u32>
-    ensures { Answers (λ xs. xs) (λ n. n) (some_extensions (text extensions.now)) result }
+    ensures list { Answers (λ xs. xs) (λ n. n) (some_extensions (text extensions.now)) result }
+    ensures early { RefusesEarly (text extensions.now) result }
 {
     let bytes = bytes_in(extensions)?;
     match GroupExtensions::decode(alloc, bytes) {
@@ -219,11 +231,12 @@ fn propose_extension_list(
     member: &mut Member<Suite0001>,
     extensions: &Given,
 ) -> Result<Fruit, u32>
-    ensures { Changes (propose_extension_list (text extensions.now) member.old)
+    ensures does { Changes (propose_extension_list (text extensions.now) member.old)
         member.old member.new result }
+    ensures early { RefusesEarly (text extensions.now) result }
 {
-    let room = room(alloc)?;
     let extensions = extensions_of(alloc, extensions)?;
+    let room = room(alloc)?;
     match member.propose_extensions(extensions) {
         Ok(message) => Ok(fill_bytes(room, message)),
         Err(error) => Err(error.number() as u32),
@@ -235,6 +248,7 @@ fn propose_extension_list(
 pub(crate) fn member_propose_extensions(alloc: Global, held: Held, extensions: &Given) -> Done
     ensures does { Does (member_propose_extensions (shown held) (text extensions.now))
         (shown held) result }
+    ensures early { RefusesEarly (behind_member (shown held) (text extensions.now)) result.outcome }
     ensures stays { held ≡ Nothing → result.held ≡ Nothing }
 {
     match take_member(held) {

@@ -1,7 +1,7 @@
 //! Calls that save and load.
 
 ghost use Rattle.std.specs.Prelude.{◌≡◌};
-ghost use Rattle.mls_c.specs.Calls.{Does, Makes, SavesHeld, SavesIfMember, SavesMember, a_member, candidate_load, candidate_save, make_loaded_candidate, make_loaded_member, make_saved_candidate, member_load};
+ghost use Rattle.mls_c.specs.Calls.{Does, Makes, SavesHeld, SavesIfMember, SavesMember, a_member, candidate_load, candidate_save, make_loaded_candidate, make_loaded_member, make_saved_candidate, member_load, RefusesEarly, a_candidate};
 ghost use Rattle.mls_c.specs.Given.{text};
 ghost use Rattle.mls_c.specs.Shown.{shown};
 ghost use Rattle.mls_c.specs.declared.held.Held.TheVariants.{Nothing};
@@ -17,7 +17,8 @@ use std::alloc::Global;
 /// The bytes that a candidate is saved as, in a handle.
 #[tactic(auto, unfolding(crate::specs::Calls::make_saved_candidate))]
 fn make_saved_candidate(alloc: Global, held: &Held) -> Result<Fruit, u32>
-    ensures { Makes (make_saved_candidate (shown held.now)) result }
+    ensures made { Makes (make_saved_candidate (shown held.now)) result }
+    ensures early { RefusesEarly (a_candidate (shown held.now)) result }
 {
     let candidate = candidate_of(held)?;
     let room = room(alloc)?;
@@ -31,6 +32,7 @@ fn make_saved_candidate(alloc: Global, held: &Held) -> Result<Fruit, u32>
 #[tactic(auto, unfolding(crate::specs::Calls::candidate_save))]
 pub(crate) fn candidate_save(alloc: Global, held: Held) -> Done
     ensures does { Does (candidate_save (shown held)) (shown held) result }
+    ensures early { RefusesEarly (a_candidate (shown held)) result.outcome }
     ensures stays { held ≡ Nothing → result.held ≡ Nothing }
 {
     let outcome = make_saved_candidate(alloc, &held);
@@ -40,7 +42,8 @@ pub(crate) fn candidate_save(alloc: Global, held: Held) -> Done
 /// The candidate that was saved so, in a handle.
 #[tactic(auto, unfolding(crate::specs::Calls::make_loaded_candidate))]
 fn make_loaded_candidate(alloc: Global, saved: &Given) -> Result<Fruit, u32>
-    ensures { Makes (make_loaded_candidate (text saved.now)) result }
+    ensures made { Makes (make_loaded_candidate (text saved.now)) result }
+    ensures early { RefusesEarly (text saved.now) result }
 {
     let saved = bytes_in(saved)?;
     let room = room(alloc)?;
@@ -54,6 +57,7 @@ fn make_loaded_candidate(alloc: Global, saved: &Given) -> Result<Fruit, u32>
 #[tactic(auto, unfolding(crate::specs::Calls::candidate_load))]
 pub(crate) fn candidate_load(alloc: Global, held: Held, saved: &Given) -> Done
     ensures does { Does (candidate_load (shown held) (text saved.now)) (shown held) result }
+    ensures early { RefusesEarly (text saved.now) result.outcome }
     ensures stays { held ≡ Nothing → result.held ≡ Nothing }
 {
     let outcome = make_loaded_candidate(alloc, saved);
@@ -74,7 +78,8 @@ fn save_member(alloc: Global, member: &Member<Suite0001>) -> Result<Fruit, u32>
 
 /// The bytes that the member of a handle is saved as, in a handle.
 fn make_saved_member(alloc: Global, held: &Held) -> Result<Fruit, u32>
-    ensures { SavesIfMember (a_member (shown held.now)) result }
+    ensures made { SavesIfMember (a_member (shown held.now)) result }
+    ensures early { RefusesEarly (a_member (shown held.now)) result }
 {
     match member_of(held) {
         Ok(member) => save_member(alloc, member),
@@ -85,6 +90,7 @@ fn make_saved_member(alloc: Global, held: &Held) -> Result<Fruit, u32>
 /// The bytes that the member of a handle is saved as.
 pub(crate) fn member_save(alloc: Global, held: Held) -> Done
     ensures does { SavesHeld (shown held) result }
+    ensures early { RefusesEarly (a_member (shown held)) result.outcome }
     ensures stays { held ≡ Nothing → result.held ≡ Nothing }
 {
     let outcome = make_saved_member(alloc, &held);
@@ -94,7 +100,8 @@ pub(crate) fn member_save(alloc: Global, held: Held) -> Done
 /// The member that was saved so, in a handle.
 #[tactic(auto, unfolding(crate::specs::Calls::make_loaded_member))]
 fn make_loaded_member(alloc: Global, saved: &Given) -> Result<Fruit, u32>
-    ensures { Makes (make_loaded_member (text saved.now)) result }
+    ensures made { Makes (make_loaded_member (text saved.now)) result }
+    ensures early { RefusesEarly (text saved.now) result }
 {
     let saved = bytes_in(saved)?;
     let room = room(alloc)?;
@@ -108,6 +115,7 @@ fn make_loaded_member(alloc: Global, saved: &Given) -> Result<Fruit, u32>
 #[tactic(auto, unfolding(crate::specs::Calls::member_load))]
 pub(crate) fn member_load(alloc: Global, held: Held, saved: &Given) -> Done
     ensures does { Does (member_load (shown held) (text saved.now)) (shown held) result }
+    ensures early { RefusesEarly (text saved.now) result.outcome }
     ensures stays { held ≡ Nothing → result.held ≡ Nothing }
 {
     let outcome = make_loaded_member(alloc, saved);

@@ -3,7 +3,7 @@
 ghost use Rattle.std.specs.Prelude.{◌≡◌, ◌≤◌, MatchResult, length};
 ghost use Rattle.mls_kdf.specs.Kdf.{max_output};
 ghost use Rattle.mls_schedule.specs.Epoch.{export_secret};
-ghost use Rattle.mls_c.specs.Calls.{Does, TellsMember, Makes, make_export, make_identity, member_at, member_export, member_leaf_count};
+ghost use Rattle.mls_c.specs.Calls.{Does, TellsMember, Makes, make_export, make_identity, member_at, member_export, member_leaf_count, DoesExactly, RefusesEarly, a_place, export_given};
 ghost use Rattle.mls_c.specs.Given.{text};
 ghost use Rattle.mls_c.specs.Shown.{shown};
 ghost use Rattle.mls_c.specs.declared.held.Held.TheVariants.{Nothing};
@@ -19,7 +19,7 @@ use std::alloc::Global;
 /// The number of leaves of a member's group.
 #[tactic(auto, unfolding(crate::specs::Calls::member_leaf_count))]
 pub(crate) fn member_leaf_count(held: Held) -> Done
-    ensures does { Does (member_leaf_count (shown held)) (shown held) result }
+    ensures does { DoesExactly (member_leaf_count (shown held)) (shown held) result }
     ensures stays { held ≡ Nothing → result.held ≡ Nothing }
 {
     let outcome = match member_of(&held) {
@@ -43,7 +43,8 @@ fn tell_member(alloc: Global, found: GroupMember<'_>) -> Result<Fruit, u32>
 /// The identity and the signature key of the member at a leaf, in handles, or `NoSuchLeaf` (22).
 #[tactic(auto, unfolding(crate::specs::Calls::make_identity))]
 fn make_identity(alloc: Global, held: &Held, leaf: u64) -> Result<Fruit, u32>
-    ensures { Makes (make_identity (shown held.now) leaf) result }
+    ensures made { Makes (make_identity (shown held.now) leaf) result }
+    ensures early { RefusesEarly (a_place (shown held.now) leaf) result }
 {
     let member = member_of(held)?;
     let leaf = leaf_of(leaf)?;
@@ -57,6 +58,7 @@ fn make_identity(alloc: Global, held: &Held, leaf: u64) -> Result<Fruit, u32>
 #[tactic(auto, unfolding(crate::specs::Calls::member_at))]
 pub(crate) fn member_at(alloc: Global, held: Held, leaf: u64) -> Done
     ensures does { Does (member_at (shown held) leaf) (shown held) result }
+    ensures early { RefusesEarly (a_place (shown held) leaf) result.outcome }
     ensures stays { held ≡ Nothing → result.held ≡ Nothing }
 {
     let outcome = make_identity(alloc, &held, leaf);
@@ -95,8 +97,10 @@ fn make_export(
     context: &Given,
     count: u64,
 ) -> Result<Fruit, u32>
-    ensures { Makes (make_export (shown held.now) (text label.now) (text context.now) count)
+    ensures made { Makes (make_export (shown held.now) (text label.now) (text context.now) count)
         result }
+    ensures early { RefusesEarly
+        (export_given (shown held.now) (text label.now) (text context.now) count) result }
 {
     let member = member_of(held)?;
     let label = label_of(label)?;
@@ -118,6 +122,8 @@ pub(crate) fn member_export(
 ) -> Done
     ensures does { Does (member_export (shown held) (text label.now) (text context.now) count)
         (shown held) result }
+    ensures early { RefusesEarly
+        (export_given (shown held) (text label.now) (text context.now) count) result.outcome }
     ensures stays { held ≡ Nothing → result.held ≡ Nothing }
 {
     let outcome = make_export(alloc, &held, label, context, count);
