@@ -17,7 +17,7 @@ use crate::error::MakeError;
 use mls_commit::Outcome;
 use mls_kdf::Secret;
 use mls_leaf::{GroupExtensions, LeafError};
-use mls_message::{Framed, Speaker, send, sign};
+use mls_message::{Framed, Speaker, sign};
 use mls_public_group::{Edits, context_spelling};
 use mls_schedule::{Epoch, Start};
 use mls_suite::{OutOfMemory, Suite};
@@ -81,8 +81,7 @@ fn message_with_tag(
         result }
 {
     let tag = Vec::from_slice(alloc, tag)?;
-    let signed = framed.with_signature(signature, tag);
-    send(alloc, speaker, &signed)
+    framed.send(alloc, speaker, signature, tag)
 }
 
 /// What is made of a commit's content before its message.

@@ -4,7 +4,7 @@ ghost use Rattle.std.specs.Prelude.{◌≡◌, ◌<◌, ◌≤◌, ◌^◌, leng
 ghost use Rattle.mls_leaf.specs.Limits.{input_limit};
 ghost use Rattle.mls_types.specs.Content.{content as content_format, framed_content};
 ghost use Rattle.mls_types.specs.Signed.{signed_content};
-ghost use Rattle.mls_types.specs.SignedParts.{with_signature};
+ghost use Rattle.mls_types.specs.SignedParts.{framed_content_of, with_signature};
 ghost use Rattle.mls_types.specs.Signing.{signed_pieces};
 ghost use Rattle.mls_public_group.specs.MessageLimit.{FitsIfShort};
 ghost use Rattle.mls_message.specs.Sending.{Frames, IsSaidBy, Sends, Signs};
@@ -98,19 +98,45 @@ impl Framed {
         &self.content
     }
 
-    /// The content with its signature, and a commit with its confirmation tag, which others leave (RFC 9420, 6.1).
-    pub fn with_signature(self, signature: Vec<u8>, confirmation_tag: Vec<u8>) -> SignedContent
+    /// The content with its signature, and a commit with its confirmation tag, which others leave (RFC 9420, 6.1); and
+    /// the spelling of what it says.
+    pub(crate) fn with_signature(
+        self,
+        signature: Vec<u8>,
+        confirmation_tag: Vec<u8>,
+    ) -> (SignedContent, Vec<u8>)
         requires signature { length signature.items < 2 ^ 30 }
         requires tag { length confirmation_tag.items < 2 ^ 30 }
-        ensures content { result ≡ with_signature self signature.items confirmation_tag.items }
-        ensures fits { signed_content.Fits result }
+        ensures content { result.0 ≡ with_signature self signature.items confirmation_tag.items }
+        ensures fits { signed_content.Fits result.0 }
+        ensures said { result.1.items ≡ framed_content.spell (framed_content_of result.0) }
     {
-        let Framed { content, .. } = self;
-        SignedContent::new(
+        let Framed { content, bytes } = self;
+        let signed = SignedContent::new(
             Box::into_inner(content),
             Bytes::from_vec(signature),
             Bytes::from_vec(confirmation_tag),
-        )
+        );
+        (signed, bytes)
+    }
+
+    /// The message of the content with its signature, and of a commit with its confirmation tag, which others leave:
+    /// `TooLong` (6) it is too large (RFC 9420, 6 and 6.2).
+    pub fn send(
+        self,
+        alloc: Global,
+        speaker: &Speaker<'_>,
+        signature: Vec<u8>,
+        confirmation_tag: Vec<u8>,
+    ) -> Result<Vec<u8>, LeafError>
+        requires signature { length signature.items < 2 ^ 30 }
+        requires tag { length confirmation_tag.items < 2 ^ 30 }
+        ensures { Sends speaker.now (λ v. v.items)
+            (with_signature self signature.items confirmation_tag.items) result }
+    {
+        let (content, said) = self.with_signature(signature, confirmation_tag);
+        let untagged = Untagged::new(alloc, &content, &said)?;
+        Ok(untagged.with_membership_tag(speaker)?)
     }
 
     /// Its spelling.
@@ -135,17 +161,4 @@ pub fn sign<S: Suite>(
     signature_is_short::<S>();
     let text = to_be_signed(alloc, framed.bytes(), speaker.group.context_bytes())?;
     sign_with_label::<S>(alloc, speaker.signing, "FramedContentTBS", &text)
-}
-
-/// The message of a signed content, with its membership tag (RFC 9420, 6 and 6.2). `TooLong` (6) it is too large.
-pub fn send(
-    alloc: Global,
-    speaker: &Speaker<'_>,
-    content: &SignedContent,
-) -> Result<Vec<u8>, LeafError>
-    requires { signed_content.Fits content.now }
-    ensures { Sends speaker.now (λ v. v.items) content.now result }
-{
-    let untagged = Untagged::new(alloc, content)?;
-    Ok(untagged.with_membership_tag(speaker)?)
 }

@@ -7,6 +7,6 @@ mod said_proposal;
 mod speaker;
 mod untagged;
 
-pub use framed::{Framed, send, sign};
+pub use framed::{Framed, sign};
 pub use said_proposal::{SaidProposal, sign_proposal};
 pub use speaker::Speaker;

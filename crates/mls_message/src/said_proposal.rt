@@ -2,7 +2,9 @@
 
 ghost use Rattle.std.specs.Prelude.{◌≡◌, IfOk};
 ghost use Rattle.mls_leaf.specs.Proposal.{proposal as proposal_format};
+ghost use Rattle.mls_types.specs.Content.{framed_content};
 ghost use Rattle.mls_types.specs.Signed.{signed_content};
+ghost use Rattle.mls_types.specs.SignedParts.{framed_content_of};
 ghost use Rattle.mls_types.specs.declared.content.Content.TheVariants as says;
 ghost use Rattle.mls_model.specs.Messages.{reference_of};
 ghost use Rattle.mls_public_group.specs.MessageLimit.{FitsIfShort};
@@ -39,30 +41,33 @@ fn framed_proposal(
     Framed::new(alloc, speaker, content)
 }
 
-/// A content that is no commit, with its signature (RFC 9420, 6.1).
+/// A content that is no commit, with its signature (RFC 9420, 6.1), and the spelling of what it says.
 fn sign_framed<S: Suite>(
     alloc: Global,
     speaker: &Speaker<'_>,
     framed: Framed,
-) -> Result<SignedContent, OutOfMemory>
-    ensures content { IfOk result (IsSignedBy S.crypto speaker.now framed) }
-    ensures fits { IfOk result signed_content.Fits }
+) -> Result<(SignedContent, Vec<u8>), OutOfMemory>
+    ensures content { IfOk result (λ r. IsSignedBy S.crypto speaker.now framed r.0) }
+    ensures fits { IfOk result (λ r. signed_content.Fits r.0) }
+    ensures said { IfOk result (λ r. r.1.items ≡ framed_content.spell (framed_content_of r.0)) }
 {
     let signature = sign::<S>(alloc, speaker, &framed)?;
     Ok(framed.with_signature(signature, Vec::new(alloc)))
 }
 
-/// The message of a signed content and its reference: `TooLong` (6) it is too large.
+/// The message of a signed content, whose FramedContent is spelled so, and its reference: `TooLong` (6) it is too large.
 fn message_and_reference_of(
     alloc: Global,
     speaker: &Speaker<'_>,
     content: &SignedContent,
+    said: &[u8],
 ) -> Result<SaidProposal, LeafError>
-    requires { signed_content.Fits content.now }
+    requires fits { signed_content.Fits content.now }
+    requires said { said.now ≡ framed_content.spell (framed_content_of content.now) }
     ensures message { Sends speaker.now (λ s. s.message.items) content.now result }
     ensures reference { IfOk result (λ s. s.reference ≡ reference_of content.now) }
 {
-    let untagged = Untagged::new(alloc, content)?;
+    let untagged = Untagged::new(alloc, content, said)?;
     let reference = untagged.reference();
     let message = untagged.with_membership_tag(speaker)?;
     Ok(SaidProposal { message, reference })
@@ -80,6 +85,6 @@ pub fn sign_proposal<S: Suite>(
     ensures reference { IfOk result (HasReference S.crypto speaker.now proposal.now) }
 {
     let framed = framed_proposal(alloc, speaker, proposal)?;
-    let content = sign_framed::<S>(alloc, speaker, framed)?;
-    message_and_reference_of(alloc, speaker, &content)
+    let (content, said) = sign_framed::<S>(alloc, speaker, framed)?;
+    message_and_reference_of(alloc, speaker, &content, &said)
 }

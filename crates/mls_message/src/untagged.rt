@@ -1,10 +1,10 @@
 //! A signed content, spelled as its message up to the membership tag (RFC 9420, 6 and 6.2).
 
-ghost use Rattle.std.specs.Prelude.{◌≡◌, ◌++◌, length, IfOk, MatchResult};
+ghost use Rattle.std.specs.Prelude.{◌≡◌, ◌++◌, ◌<◌, ◌^◌, length, IfOk, OnOk, MatchResult};
 ghost use Rattle.mls_wire.specs.Reading.{opaque};
-ghost use Rattle.mls_leaf.specs.Faults.{Writes};
+ghost use Rattle.mls_types.specs.Content.{framed_content};
 ghost use Rattle.mls_types.specs.Signed.{signed_content};
-ghost use Rattle.mls_types.specs.SignedParts.{auth_data, AuthDataFits};
+ghost use Rattle.mls_types.specs.SignedParts.{framed_content_of, auth_data, AuthDataFits};
 ghost use Rattle.mls_schedule.specs.Epoch.{membership_tag};
 ghost use Rattle.mls_model.specs.Messages.{reference_of};
 ghost use Rattle.mls_message.specs.Pieces.{untagged, IsUntagged, IsTooLarge};
@@ -13,17 +13,19 @@ ghost use Rattle.mls_message.specs.Sending.{IsMessageBy, IsTagBy};
 use crate::limits::{require_room, vector_length};
 use crate::speaker::Speaker;
 use mls_kdf::{Secret, content_header};
-use mls_leaf::{Codec, LeafError};
+use mls_leaf::LeafError;
 use mls_public_group::know_bytes;
 use mls_schedule::Epoch;
 use mls_suite::OutOfMemory;
 use mls_types::{SignedBody, SignedContent, proposal_reference};
-use mls_wire::Writer;
 use std::alloc::Global;
 use std::marker::Model;
 
 /// How many bytes a membership tag takes in a message: its header of one byte, and 32 bytes.
 const TAG_LENGTH: usize = 33;
+
+/// Room for what stands beside the FramedContent in most messages.
+const ROOM_BESIDE: usize = 256;
 
 /// A signed content with its message up to the membership tag, for which there is room (RFC 9420, 6 and 6.2).
 #[derive(Drop)]
@@ -43,16 +45,48 @@ impl<'a> Model for Untagged<'a> {
     ghost invariant = { λ u. IsUntagged u.content.now u.bytes.items };
 }
 
-/// Version 1, wire format 1 and the content. TooLong where a vector in it has 2^30 bytes or more.
-#[tactic(auto, using(mls_leaf::proofs::Codecs::codecs))]
-fn spell_front(alloc: Global, content: &SignedContent) -> Result<Vec<u8>, LeafError>
-    ensures { Writes (signed_content.Fits content.now) (untagged content.now) result }
+/// Adds a vector with this content to a text.
+fn add_vector(text: &mut Vec<u8>, content: &[u8]) -> Result<(), OutOfMemory>
+    requires { length content.now < 2 ^ 30 }
+    ensures { OnOk result (text.new.items ≡ text.old.items ++ opaque content.now) }
 {
-    let mut writer = Writer::new(alloc);
-    writer.u16(1)?;
-    writer.u16(1)?;
-    content.write(alloc, &mut writer)?;
-    Ok(writer.into_bytes())
+    let header = content_header(content.len());
+    text.extend_from_slice(header.as_slice())?;
+    text.extend_from_slice(content)?;
+    Ok(())
+}
+
+/// Adds the FramedContentAuthData of a signed content to a text (RFC 9420, 6.1).
+fn add_auth_data(text: &mut Vec<u8>, content: &SignedContent) -> Result<(), OutOfMemory>
+    requires { AuthDataFits content.now }
+    ensures { OnOk result (text.new.items ≡ text.old.items ++ auth_data content.now) }
+{
+    add_vector(text, content.signature.as_slice())?;
+    match &content.body {
+        SignedBody::Application(_) => Ok(()),
+        SignedBody::Proposal(_) => Ok(()),
+        SignedBody::Commit {
+            commit: _,
+            confirmation_tag,
+        } => add_vector(text, confirmation_tag.as_slice()),
+    }
+}
+
+/// Version 1, wire format 1 and the content, whose FramedContent is spelled so.
+fn spell_front(
+    alloc: Global,
+    content: &SignedContent,
+    said: &[u8],
+) -> Result<Vec<u8>, OutOfMemory>
+    requires said { said.now ≡ framed_content.spell (framed_content_of content.now) }
+    requires fits { AuthDataFits content.now }
+    ensures { IfOk result (λ v. v.items ≡ untagged content.now) }
+{
+    let mut text = Vec::with_capacity(alloc, said.len() + ROOM_BESIDE)?;
+    text.extend_from_slice(&[0, 1, 0, 1])?;
+    text.extend_from_slice(said)?;
+    add_auth_data(&mut text, content)?;
+    Ok(text)
 }
 
 /// How many bytes the FramedContentAuthData of a signed content has (RFC 9420, 6.1).
@@ -83,19 +117,23 @@ fn with_tag(text: Vec<u8>, tag: &Secret) -> Result<Vec<u8>, OutOfMemory>
     ensures { IfOk result (λ v. v.items ≡ text.items ++ opaque tag.now) }
 {
     let mut text = text;
-    let header = content_header(tag.len());
-    text.extend_from_slice(header.as_slice())?;
-    text.extend_from_slice(tag)?;
+    add_vector(&mut text, tag)?;
     Ok(text)
 }
 
 impl<'a> Untagged<'a> {
-    /// The message of a content up to its membership tag: `TooLong` (6) where the whole message is too large.
-    pub(crate) fn new(alloc: Global, content: &'a SignedContent) -> Result<Untagged<'a>, LeafError>
-        requires { signed_content.Fits content.now }
+    /// The message of a content up to its membership tag, where its FramedContent is spelled so: `TooLong` (6) where
+    /// the whole message is too large.
+    pub(crate) fn new(
+        alloc: Global,
+        content: &'a SignedContent,
+        said: &[u8],
+    ) -> Result<Untagged<'a>, LeafError>
+        requires fits { signed_content.Fits content.now }
+        requires said { said.now ≡ framed_content.spell (framed_content_of content.now) }
         ensures { MatchResult result (λ u. u ≡ content.now) (IsTooLarge content.now) }
     {
-        let bytes = spell_front(alloc, content)?;
+        let bytes = spell_front(alloc, content, said)?;
         require_room(&bytes, TAG_LENGTH)?;
         Ok(Untagged { content, bytes })
     }

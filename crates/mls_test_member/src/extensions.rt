@@ -9,7 +9,7 @@ use crate::sole::{candidate, create_first};
 use mls_candidate::Candidate;
 use mls_leaf::{Bytes, Extension, GroupExtensions, INPUT_LIMIT, Items, LeafError, Proposal};
 use mls_member::{Item, Joined, Made, Member, Refusal};
-use mls_message::{Framed, Speaker, send, sign};
+use mls_message::{Framed, Speaker, sign};
 use mls_suite::Glass;
 use mls_types::{Commit, Content, ProposalOrRef, proposal_reference};
 use std::alloc::Global;
@@ -263,8 +263,7 @@ fn pathless_message(alloc: Global, speaker: &Speaker<'_>) -> Result<Vec<u8>, Lea
     let framed = frame_pathless(alloc, speaker)?;
     let signature = sign::<Glass>(alloc, speaker, &framed)?;
     let tag = vec![in alloc; 0; 32]?;
-    let content = Box::new(alloc, framed.with_signature(signature, tag))?;
-    send(alloc, speaker, &content)
+    framed.send(alloc, speaker, signature, tag)
 }
 
 /// The message, as "a" says it.

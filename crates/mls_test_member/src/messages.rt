@@ -2,16 +2,15 @@
 
 ghost use Rattle.std.specs.Prelude.{IfOk};
 ghost use Rattle.mls_types.specs.Content.{content as content_format};
-ghost use Rattle.mls_types.specs.Signed.{signed_content};
 ghost use Rattle.mls_public_group.specs.MessageLimit.{FitsIfShort};
 
 use crate::sole::sole;
 use mls_kdf::Secret;
 use mls_leaf::{Bytes, INPUT_LIMIT, LeafError, Proposal};
 use mls_member::{Member, Refusal};
-use mls_message::{Framed, SaidProposal, Speaker, send, sign, sign_proposal};
+use mls_message::{Framed, SaidProposal, Speaker, sign, sign_proposal};
 use mls_suite::Glass;
-use mls_types::{Content, SignedContent, proposal_reference};
+use mls_types::{Content, proposal_reference};
 use std::alloc::{AllocError, Global};
 use std::test::Fail;
 
@@ -76,23 +75,10 @@ fn frame_text(alloc: Global, speaker: &Speaker<'_>, length: usize) -> Result<Fra
     Framed::new(alloc, speaker, text(alloc, length)?)
 }
 
-/// It, signed.
-fn sign_framed(
-    alloc: Global,
-    speaker: &Speaker<'_>,
-    framed: Framed,
-) -> Result<Box<SignedContent>, LeafError>
-    ensures { IfOk result (λ b. signed_content.Fits b.value) }
-{
-    let signature = sign::<Glass>(alloc, speaker, &framed)?;
-    let content = framed.with_signature(signature, Vec::new(alloc));
-    Ok(Box::new(alloc, content)?)
-}
-
 /// Its message.
 fn send_framed(alloc: Global, speaker: &Speaker<'_>, framed: Framed) -> Result<Vec<u8>, LeafError> {
-    let content = sign_framed(alloc, speaker, framed)?;
-    send(alloc, speaker, &content)
+    let signature = sign::<Glass>(alloc, speaker, &framed)?;
+    framed.send(alloc, speaker, signature, Vec::new(alloc))
 }
 
 /// The number with which a text of so many bytes is refused when it is framed, and when it is sent; 0 where it isn't.
