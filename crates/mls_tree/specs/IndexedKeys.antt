@@ -1,5 +1,5 @@
 -- The indexes that a tree keeps of its keys.
-use Rattle.std.specs.Prelude.{◌≡◌, ℕ, ◌≤◌, Bool, cond, List, length, Option, Some, None}
+use Rattle.std.specs.Prelude.{◌≡◌, ℕ, ◌≤◌, Bool, false, cond, List, length, Option, Some, None}
 use Rattle.mls_leaf.specs.declared.leaf.LeafNode.{LeafNode}
 use Rattle.mls_leaf.specs.declared.node.Node.{Node}
 use Rattle.mls_tree_index.specs.declared.kind.KeyKind.{KeyKind}
@@ -23,6 +23,11 @@ pub record AreIndexes (cells : List (Option Node)) (t : KeyIndexes) : Type 0 whe
 pub record HaveRoom (n : ℕ) (t : KeyIndexes) : Type 0 where
   pub keys : n ≤ t.keys.room
   pub clients : n ≤ t.clients.room
+
+-- the index of keys has memory for so many more cells, and that of clients too where it isn't kept
+pub record HaveRoomBeside (kept : Bool) (n : ℕ) (t : KeyIndexes) : Type 0 where
+  pub keys : n ≤ t.keys.room
+  pub clients : kept ≡ false → n ≤ t.clients.room
 
 -- they are the same but for their memory
 pub record AreSame (s t : KeyIndexes) : Type 0 where

@@ -3,7 +3,7 @@
 ghost use Rattle.std.specs.Prelude.{◌≡◌, ℕ, ◌≤◌, ◌^◌, nat_eq, true, take, length, IfOk, OnOk};
 ghost use Rattle.mls_tree_model.specs.Sets.{is_distinct};
 ghost use Rattle.mls_tree_model.specs.Good.{has_distinct_keys, has_distinct_clients};
-ghost use Rattle.mls_tree.specs.IndexedKeys.{AreIndexes, AreBeside, HaveRoom, AreSame, KeepsIndexes, EntersNode, LeavesNodes, EntersNodes, AnswersTest};
+ghost use Rattle.mls_tree.specs.IndexedKeys.{AreIndexes, AreBeside, HaveRoom, HaveRoomBeside, AreSame, KeepsIndexes, EntersNode, LeavesNodes, EntersNodes, AnswersTest};
 
 use mls_tree_index::{Index, KeyKind};
 use mls_tree_slot::Slot;
@@ -35,6 +35,19 @@ impl KeyIndexes {
         ensures same { AreSame self.old self.new }
     {
         self.keys.reserve(count)?;
+        self.clients.reserve(count)
+    }
+
+    /// Makes room for so many more cells, but not in the index of clients where that is kept. Without memory for it all
+    /// stays.
+    pub(crate) fn reserve_path(&mut self, count: usize, kept: bool) -> Result<(), AllocError>
+        ensures room { OnOk result (HaveRoomBeside kept count self.new) }
+        ensures same { AreSame self.old self.new }
+    {
+        self.keys.reserve(count)?;
+        if kept {
+            return Ok(());
+        }
         self.clients.reserve(count)
     }
 
@@ -71,7 +84,7 @@ impl KeyIndexes {
     /// parents over it are replaced.
     pub(crate) fn leave_path(&mut self, cells: &[Slot], way: &[u32], kept: bool)
         requires { is_distinct nat_eq way.now ≡ true }
-        ensures room { (n : ℕ) → HaveRoom n self.old → HaveRoom n self.new }
+        ensures room { (n : ℕ) → HaveRoomBeside kept n self.old → HaveRoomBeside kept n self.new }
         ensures left { AreIndexes cells.now self.old → AreBeside kept way.now cells.now self.new }
     {
         self.keys.leave_all(cells, way);
@@ -83,7 +96,7 @@ impl KeyIndexes {
     /// Enters the cells of a leaf's way, but into the index of clients where that was kept: after they were replaced.
     pub(crate) fn enter_path(&mut self, cells: &[Slot], way: &[u32], kept: bool)
         requires distinct { is_distinct nat_eq way.now ≡ true }
-        requires room { HaveRoom (length way.now) self.old }
+        requires room { HaveRoomBeside kept (length way.now) self.old }
         ensures { AreBeside kept way.now cells.now self.old → AreIndexes cells.now self.new }
     {
         self.keys.enter_all(cells, way);

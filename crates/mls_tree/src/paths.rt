@@ -74,7 +74,7 @@ pub(crate) fn merge_with_indexes(
     let leaf = SharedLeaf::new(*nodes.allocator(), leaf)?;
     let way = Way::over(height, i);
     let places = way.as_slice();
-    indexes.reserve(places.len())?;
+    indexes.reserve_path(places.len(), kept)?;
     indexes.leave_path(nodes, places, kept);
     merge(nodes, height, i, leaf, parents);
     indexes.enter_path(nodes, places, kept);
