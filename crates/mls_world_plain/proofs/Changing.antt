@@ -20,7 +20,6 @@ use Rattle.mls_public_group.proofs.Rest.{all_at, all_behind}
 use Rattle.mls_world_plain.specs.CallParts.{seat_verdict, is_advanced}
 use Rattle.mls_world_plain.specs.StoredWorld.{journal_at, IsWithin, HasEntry, AreMore, Seated, Making, seat_of, commit_made_of, world_of, AreStored}
 use Rattle.mls_world_plain.proofs.Stores.{seat_set, seats_stay, made_stay, stored_more, unchanged, all_set}
-use Rattle.mls_world_plain.proofs.JournalSteps.{journal_seam}
 
 abbrev parts : List Entrant → List Seat → List (List ℕ) → List CommitMade → World
 parts es seats ms made = record { entrants = es; seats = seats; messages = ms; commits = made }
@@ -33,11 +32,11 @@ going_on s bytes (Known r) h = absurd cc
 going_on s bytes (Advanced n) h = refl
 going_on s bytes Removed h = absurd cc
 
-pub advanced : (c : Crypto) (js new : List Journal) (s : Seated) (bytes : List ℕ) (m : Member) (e : Effect) (entry : Entry) (n : ℕ) → verdict c s.member bytes ≡ Ok (e, m) → true ≡ is_advanced e → entry ≡ entry_of s.member bytes → new ≡ js ++ with_entry (journal_at js s.journal) entry ∷ [] → n ≡ length js
+pub advanced : (c : Crypto) (js mid new : List Journal) (s : Seated) (bytes : List ℕ) (m : Member) (e : Effect) (entry : Entry) (n : ℕ) → verdict c s.member bytes ≡ Ok (e, m) → true ≡ is_advanced e → journal_at new n ≡ with_entry (journal_at mid s.journal) entry → entry ≡ entry_of s.member bytes → mid ≡ js
     → seat_verdict c (seat_of js s) bytes ≡ Ok (e, seat_of new (record { member = m; journal = n }))
 unfolding seat_verdict
-advanced c js new s bytes m e entry n h goes is at last =
-    rw (h, going_on (seat_of js s) bytes e (sym goes), at, last, is, journal_seam js (with_entry (journal_at js s.journal) (entry_of s.member bytes))) refl
+advanced c js mid new s bytes m e entry n h goes at is same =
+    rw (h, going_on (seat_of js s) bytes e (sym goes), at, same, is) refl
 
 staying : (s : Seat) (bytes : List ℕ) (e : Effect) → is_advanced e ≡ false → journal_after s bytes e ≡ s.journal
 staying s bytes (Proposed r) h = refl
@@ -45,10 +44,13 @@ staying s bytes (Known r) h = refl
 staying s bytes (Advanced n) h = absurd cc
 staying s bytes Removed h = refl
 
-pub stayed : (c : Crypto) (js : List Journal) (s : Seated) (bytes : List ℕ) (m : Member) (e : Effect) → verdict c s.member bytes ≡ Ok (e, m) → false ≡ is_advanced e
-    → seat_verdict c (seat_of js s) bytes ≡ Ok (e, seat_of js (record { member = m; journal = s.journal }))
+pub stayed : (c : Crypto) (js mid : List Journal) (s : Seated) (bytes : List ℕ) (m : Member) (e : Effect) → verdict c s.member bytes ≡ Ok (e, m) → false ≡ is_advanced e → mid ≡ js
+    → seat_verdict c (seat_of js s) bytes ≡ Ok (e, seat_of mid (record { member = m; journal = s.journal }))
 unfolding seat_verdict
-stayed c js s bytes m e h other = rw (h, staying (seat_of js s) bytes e (sym other)) refl
+stayed c js mid s bytes m e h other same = rw (h, staying (seat_of js s) bytes e (sym other), same) refl
+
+pub seat_same : (js mid : List Journal) (s : Seated) → mid ≡ js → seat_of mid s ≡ seat_of js s
+seat_same js mid s e = ap (λ (l : List Journal). seat_of l s) e
 
 pub failed : (c : Crypto) (js : List Journal) (s : Seated) (bytes : List ℕ) (n : ℕ) → verdict c s.member bytes ≡ Err n → seat_verdict c (seat_of js s) bytes ≡ Err n
 unfolding seat_verdict
@@ -128,9 +130,6 @@ stored_joined ss ds js new s h m lt =
     let all : AreStored ss ds new = subst (λ (l : List Journal). AreStored ss ds l) (sym m.are) (stored_more ss ds js m.more h) in
     record { seats = all_behind (λ (x : Seated). IsWithin new x.journal) ss s all.seats lt; made = all.made }
 
-pub one_behind : (js : List Journal) (j : Journal) → AreMore js (js ++ j ∷ [])
-one_behind js j = record { more = j ∷ []; are = refl }
-
 pub none_behind : (js : List Journal) → AreMore js js
 none_behind js = record { more = []; are = sym (append-nil js) }
 
@@ -139,31 +138,30 @@ last_within js j = omega (arith, length-append js (j ∷ []))
 
 -- ---- records
 
-pub entry_last : (js : List Journal) (j : Journal) (e : Entry) → HasEntry (js ++ with_entry j e ∷ []) (length js)
-entry_last js j e = record { within = last_within js (with_entry j e); follows = rw (journal_seam js (with_entry j e)) refl }
+entry_there : (new : List Journal) (n : ℕ) (j : Journal) (e : Entry) → n < length new → journal_at new n ≡ with_entry j e → HasEntry new n
+entry_there new n j e lt is = record { within = lt; follows = rw is refl }
 
-pub made_last : (js : List Journal) (j : Journal) (e : Entry) (maker : ℕ) (epoch : List ℕ) (adds : List (List ℕ)) (welcome : Option (ℕ × List ℕ))
-    → commit_made_of (js ++ with_entry j e ∷ []) (record { maker = maker; journal = length js; epoch_secret = epoch; adds = adds; welcome = welcome }) ≡ record { maker = maker; journal = j; entry = e; epoch_secret = epoch; adds = adds; welcome = welcome }
-made_last js j e maker epoch adds welcome = rw (journal_seam js (with_entry j e)) refl
+made_is : (new : List Journal) (n : ℕ) (j : Journal) (e : Entry) (maker : ℕ) (epoch : List ℕ) (adds : List (List ℕ)) (welcome : Option (ℕ × List ℕ)) → journal_at new n ≡ with_entry j e
+    → commit_made_of new (record { maker = maker; journal = n; epoch_secret = epoch; adds = adds; welcome = welcome }) ≡ record { maker = maker; journal = j; entry = e; epoch_secret = epoch; adds = adds; welcome = welcome }
+made_is new n j e maker epoch adds welcome is = rw is refl
 
-pub made_added : (es : List Entrant) (ss : List Seated) (ms more : List (List ℕ)) (ds : List Making) (js : List Journal) (j : Journal) (e : Entry) (maker : ℕ) (epoch : List ℕ) (adds : List (List ℕ)) (welcome : Option (ℕ × List ℕ)) → AreStored ss ds js
-    → world_of es ss (ms ++ more) (ds ++ record { maker = maker; journal = length js; epoch_secret = epoch; adds = adds; welcome = welcome } ∷ []) (js ++ with_entry j e ∷ [])
+pub made_added : (es : List Entrant) (ss : List Seated) (ms more : List (List ℕ)) (ds : List Making) (js new : List Journal) (n : ℕ) (j : Journal) (e : Entry) (maker : ℕ) (epoch : List ℕ) (adds : List (List ℕ)) (welcome : Option (ℕ × List ℕ))
+    → AreStored ss ds js → AreMore js new → journal_at new n ≡ with_entry j e
+    → world_of es ss (ms ++ more) (ds ++ record { maker = maker; journal = n; epoch_secret = epoch; adds = adds; welcome = welcome } ∷ []) new
     ≡ record (world_of es ss ms ds js) { messages = ms ++ more; commits = map (commit_made_of js) ds ++ record { maker = maker; journal = j; entry = e; epoch_secret = epoch; adds = adds; welcome = welcome } ∷ [] }
-made_added es ss ms more ds js j e maker epoch adds welcome h =
-    let new = js ++ with_entry j e ∷ [] in
-    let d : Making = record { maker = maker; journal = length js; epoch_secret = epoch; adds = adds; welcome = welcome } in
-    let a : map (seat_of new) ss ≡ map (seat_of js) ss = seats_stay js (with_entry j e ∷ []) ss h.seats in
-    let b : map (commit_made_of new) ds ≡ map (commit_made_of js) ds = made_stay js (with_entry j e ∷ []) ds h.made in
-    let last : commit_made_of new d ≡ record { maker = maker; journal = j; entry = e; epoch_secret = epoch; adds = adds; welcome = welcome } = made_last js j e maker epoch adds welcome in
+made_added es ss ms more ds js new n j e maker epoch adds welcome h m is =
+    let d : Making = record { maker = maker; journal = n; epoch_secret = epoch; adds = adds; welcome = welcome } in
+    let a : map (seat_of new) ss ≡ map (seat_of js) ss = rw m.are (seats_stay js m.more ss h.seats) in
+    let b : map (commit_made_of new) ds ≡ map (commit_made_of js) ds = rw m.are (made_stay js m.more ds h.made) in
+    let last : commit_made_of new d ≡ record { maker = maker; journal = j; entry = e; epoch_secret = epoch; adds = adds; welcome = welcome } = made_is new n j e maker epoch adds welcome is in
     let f : map (commit_made_of new) (ds ++ d ∷ []) ≡ map (commit_made_of js) ds ++ record { maker = maker; journal = j; entry = e; epoch_secret = epoch; adds = adds; welcome = welcome } ∷ [] =
     map-append (commit_made_of new) ds (d ∷ []) ∙ ap (λ (l : List CommitMade). l ++ commit_made_of new d ∷ []) b ∙ ap (λ (x : CommitMade). map (commit_made_of js) ds ++ x ∷ []) last in
     ap (λ (l : List Seat). parts es l (ms ++ more) (map (commit_made_of new) (ds ++ d ∷ []))) a ∙ ap (λ (l : List CommitMade). parts es (map (seat_of js) ss) (ms ++ more) l) f
 
-pub stored_made : (ss : List Seated) (ds : List Making) (js : List Journal) (j : Journal) (e : Entry) (d : Making) → AreStored ss ds js → d.journal ≡ length js → AreStored ss (ds ++ d ∷ []) (js ++ with_entry j e ∷ [])
-stored_made ss ds js j e d h at =
-    let new = js ++ with_entry j e ∷ [] in
-    let all : AreStored ss ds new = stored_more ss ds js (with_entry j e ∷ []) h in
-    record { seats = all.seats; made = all_behind (λ (x : Making). HasEntry new x.journal) ds d all.made (subst (λ (n : ℕ). HasEntry new n) (sym at) (entry_last js j e)) }
+pub stored_made : (ss : List Seated) (ds : List Making) (js new : List Journal) (j : Journal) (e : Entry) (d : Making) → AreStored ss ds js → AreMore js new → d.journal < length new → journal_at new d.journal ≡ with_entry j e → AreStored ss (ds ++ d ∷ []) new
+stored_made ss ds js new j e d h m lt is =
+    let all : AreStored ss ds new = subst (λ (l : List Journal). AreStored ss ds l) (sym m.are) (stored_more ss ds js m.more h) in
+    record { seats = all.seats; made = all_behind (λ (x : Making). HasEntry new x.journal) ds d all.made (entry_there new d.journal j e lt is) }
 
 -- a record's journal with its entry
 pub made_found : (js : List Journal) (ss : List Seated) (ds : List Making) (i : ℕ) (d : Making) (x : CommitMade) → AreStored ss ds js → i < length ds → d ≡ get_or ds i d → slice_get (map (commit_made_of js) ds) i ≡ Some x → journal_at js d.journal ≡ with_entry x.journal x.entry

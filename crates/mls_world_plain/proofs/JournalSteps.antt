@@ -1,7 +1,7 @@
 -- Journals behind each other.
-use Rattle.std.proofs.Common.{◌≡◌, ℕ, zero, suc, ◌+◌, ◌-◌, ◌<◌, take, get_or, List, [], ◌∷◌, ◌++◌, length, refl, sym, ap, subst, ◌∙◌, arith}
+use Rattle.std.proofs.Common.{◌≡◌, ℕ, zero, suc, ◌+◌, ◌<◌, get_or, List, [], ◌∷◌, ◌++◌, length, refl, sym, ap, subst, ◌∙◌, arith}
 use Rattle.std.proofs.lemmas.List.{length-append, get_or_append_left}
-use Rattle.std.proofs.Math.Seq.{get_or-append_seam, take-append_seam}
+use Rattle.std.proofs.Math.Seq.{get_or-append_seam}
 use Rattle.mls_model.specs.declared.origin.Origin.TheVariants as from
 use Rattle.mls_model.specs.Journal.{Entry, Journal, new_journal, with_entry}
 use Rattle.mls_world_plain.specs.declared.entry.JournalStep.{JournalStep}
@@ -48,12 +48,6 @@ goes_more n [] s go back = let e : n + 0 ≡ n = omega arith in (subst (λ (k : 
 goes_more n (x ∷ ss) s go back =
     let e : n + suc (length ss) ≡ suc n + length ss = omega arith in
     (go.0, goes_more (suc n) ss s go.1 (subst (λ (k : ℕ). GoesBack k s) e back))
-
-pub goes_less : (n k : ℕ) (ss : List JournalStep) → GoBack n ss → GoBack n (take k ss)
-unfolding GoBack
-goes_less n zero ss go = tt
-goes_less n (suc k) [] go = tt
-goes_less n (suc k) (s ∷ ss) go = (go.0, goes_less (suc n) k ss go.1)
 
 -- a journal that stands there stays as others come
 stays : (js : List Journal) (ss : List JournalStep) (n : ℕ) → n < length js → journal_at (journals_of js ss) n ≡ journal_at js n
@@ -104,40 +98,3 @@ goes_behind ss s go back =
 -- an entry is behind its journal
 pub before_entry : (j : Journal) (e : Entry) → journal_before (with_entry j e) ≡ j
 before_entry j e = refl
-
--- ---- the last one is taken back
-
-init_same : (xs ys : List Journal) (x y : Journal) → xs ++ x ∷ [] ≡ ys ++ y ∷ [] → xs ≡ ys
-init_same [] [] x y h = refl
-init_same [] (b ∷ ys) x y h = let e = ap length h in absurd (omega (arith, e, length-append ys (y ∷ [])))
-init_same (a ∷ xs) [] x y h = let e = ap length h in absurd (omega (arith, e, length-append xs (x ∷ [])))
-init_same (a ∷ xs) (b ∷ ys) x y h = let r : xs ++ x ∷ [] ≡ ys ++ y ∷ [] = cc in let p : a ≡ b = cc in let t = init_same xs ys x y r in cc
-
--- a list with one behind it
-record Snoc (ss : List JournalStep) : Type 0 where
-  first : List JournalStep
-  final : JournalStep
-  is : ss ≡ first ++ final ∷ []
-
-snoc_of : (y : JournalStep) (ss : List JournalStep) → Snoc (y ∷ ss)
-snoc_of y [] = record { first = []; final = y; is = refl }
-snoc_of y (z ∷ ss) = let r = snoc_of z ss in record { first = y ∷ r.first; final = r.final; is = ap (λ (l : List JournalStep). y ∷ l) r.is }
-
-none_longer : (js : List Journal) (j : Journal) → [] ≡ js ++ j ∷ [] → ⊥
-none_longer js j h = let e = ap length h in omega (arith, e, length-append js (j ∷ []))
-
-without_last : (xs : List JournalStep) (x : JournalStep) → take (length (xs ++ x ∷ []) - 1) (xs ++ x ∷ []) ≡ xs
-without_last xs x =
-    let n : length (xs ++ x ∷ []) - 1 ≡ length xs = omega (arith, length-append xs (x ∷ [])) in
-    ap (λ (k : ℕ). take k (xs ++ x ∷ [])) n ∙ take-append_seam xs (x ∷ [])
-
-by_snoc : (ss : List JournalStep) → Snoc ss → (js : List Journal) (j : Journal) → journals_of [] ss ≡ js ++ j ∷ [] → journals_of [] (take (length ss - 1) ss) ≡ js
-by_snoc ss r js j h =
-    let t : take (length ss - 1) ss ≡ r.first = ap (λ (l : List JournalStep). take (length l - 1) l) r.is ∙ without_last r.first r.final in
-    let e : journals_of [] r.first ++ journal_of (journals_of [] r.first) r.final ∷ [] ≡ js ++ j ∷ [] = sym (one_more r.first r.final) ∙ ap (λ (l : List JournalStep). journals_of [] l) (sym r.is) ∙ h in
-    ap (λ (l : List JournalStep). journals_of [] l) t ∙ init_same (journals_of [] r.first) js (journal_of (journals_of [] r.first) r.final) j e
-
-pub taken_back : (ss : List JournalStep) (js : List Journal) (j : Journal) → journals_of [] ss ≡ js ++ j ∷ [] → journals_of [] (take (length ss - 1) ss) ≡ js
-unfolding journals_of
-taken_back [] js j h = absurd (none_longer js j h)
-taken_back (y ∷ ss) js j h = by_snoc (y ∷ ss) (snoc_of y ss) js j h

@@ -1,4 +1,6 @@
 pub mod JournalSteps
+pub mod Entries
+pub mod Following
 pub mod Stores
 pub mod Readings
 pub mod Calling

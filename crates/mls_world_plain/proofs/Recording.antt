@@ -14,7 +14,7 @@ use Rattle.mls_model.specs.Member.{Member, Pending, without_pending}
 use Rattle.mls_model.specs.declared.event.WorldItem.{WorldItem}
 use Rattle.mls_model.specs.World.{Entrant, Seat, World, with_member, items_of}
 use Rattle.mls_world_plain.specs.CallParts.{commit_by, messages_with, record_commit, IsNamed}
-use Rattle.mls_world_plain.specs.StoredWorld.{journal_at, Seated, Making, seat_of, world_of, AreStored}
+use Rattle.mls_world_plain.specs.StoredWorld.{journal_at, AreMore, Seated, Making, seat_of, world_of, AreStored}
 use Rattle.mls_world_plain.proofs.Stores.{seat_found, unchanged}
 use Rattle.mls_world_plain.proofs.Calling.{at_same, member_changed}
 use Rattle.mls_world_plain.proofs.Changing.{made_added, stored_made}
@@ -86,11 +86,12 @@ commit_fails c w es ss ms ds js k x y list path seed m n same seen at lt h =
 abbrev made_with : List Making → Making → List Making
 made_with l d = l ++ d ∷ []
 
-pub stored_recorded : (ss : List Seated) (ds before after : List Making) (js new : List Journal) (j : Journal) (e : Entry) (d : Making)
-    → AreStored ss ds js → before ≡ ds → after ≡ before ++ d ∷ [] → new ≡ js ++ with_entry j e ∷ [] → d.journal ≡ length js → AreStored ss after new
-stored_recorded ss ds before after js new j e d h b a is at =
+pub stored_recorded : (ss : List Seated) (ds before after : List Making) (js mid new : List Journal) (j : Journal) (e : Entry) (d : Making)
+    → AreStored ss ds js → mid ≡ js → AreMore mid new → before ≡ ds → after ≡ before ++ d ∷ [] → d.journal < length new → journal_at new d.journal ≡ with_entry j e → AreStored ss after new
+stored_recorded ss ds before after js mid new j e d h same m b a lt is =
     let all : after ≡ ds ++ d ∷ [] = a ∙ ap (λ (l : List Making). made_with l d) b in
-    rw (all, is) (stored_made ss ds js j e d h at)
+    let more : AreMore js new = subst (λ (l : List Journal). AreMore l new) same m in
+    rw all (stored_made ss ds js new j e d h more lt is)
 
 -- a record, as it is made
 abbrev pub making : ℕ → ℕ → List ℕ → List (List ℕ) → Option (ℕ × List ℕ) → Making
@@ -108,11 +109,11 @@ recorded_with w k j commit names epoch adds more welcome = record w {
 abbrev the_pair : Reply → World → Reply × World
 the_pair r w = (r, w)
 
-added : (w : World) (es : List Entrant) (ss : List Seated) (ms more : List (List ℕ)) (ds : List Making) (js : List Journal) (k : ℕ) (j : Journal) (commit : List ℕ) (names : List (List ℕ)) (epoch : List ℕ) (adds : List (List ℕ)) (welcome : Option (ℕ × List ℕ))
-    → world_of es ss ms ds js ≡ w → AreStored ss ds js
-    → world_of es ss (ms ++ more) (ds ++ making k (length js) epoch adds welcome ∷ []) (js ++ with_entry j (record { commit = commit; named_messages = names }) ∷ []) ≡ recorded_with w k j commit names epoch adds more welcome
-added w es ss ms more ds js k j commit names epoch adds welcome same h =
-    made_added es ss ms more ds js j (record { commit = commit; named_messages = names }) k epoch adds welcome h
+added : (w : World) (es : List Entrant) (ss : List Seated) (ms more : List (List ℕ)) (ds : List Making) (js new : List Journal) (k at : ℕ) (j : Journal) (commit : List ℕ) (names : List (List ℕ)) (epoch : List ℕ) (adds : List (List ℕ)) (welcome : Option (ℕ × List ℕ))
+    → world_of es ss ms ds js ≡ w → AreStored ss ds js → AreMore js new → journal_at new at ≡ with_entry j (record { commit = commit; named_messages = names })
+    → world_of es ss (ms ++ more) (ds ++ making k at epoch adds welcome ∷ []) new ≡ recorded_with w k j commit names epoch adds more welcome
+added w es ss ms more ds js new k at j commit names epoch adds welcome same h m is =
+    made_added es ss ms more ds js new at j (record { commit = commit; named_messages = names }) k epoch adds welcome h m is
     ∙ ap (λ (v : World). recorded_with v k j commit names epoch adds more welcome) same
 
 abbrev record_of : World → ℕ → Journal → List ℕ → List ℕ → Option (List ℕ) → List (List ℕ) → List (List ℕ) → ℕ → Reply × World
@@ -124,23 +125,22 @@ fused f n None = refl
 fused f n (Some x) = refl
 
 world_is : (w : World) (es : List Entrant) (ss : List Seated) (ms : List (List ℕ)) (ds : List Making) (js new : List Journal) (k at : ℕ) (j : Journal) (commit seen : List ℕ) (names : List (List ℕ)) (epoch : List ℕ) (adds : List (List ℕ)) (more messages : List (List ℕ)) (welcome said : Option (ℕ × List ℕ)) (after : List Making)
-    → world_of es ss ms ds js ≡ w → AreStored ss ds js → at ≡ length js → seen ≡ commit → said ≡ welcome → new ≡ js ++ with_entry j (record { commit = seen; named_messages = names }) ∷ []
+    → world_of es ss ms ds js ≡ w → AreStored ss ds js → AreMore js new → journal_at new at ≡ with_entry j (record { commit = seen; named_messages = names }) → seen ≡ commit → said ≡ welcome
     → after ≡ ds ++ making k at epoch adds said ∷ [] → messages ≡ ms ++ more
     → recorded_with w k j commit names epoch adds more welcome ≡ world_of es ss messages after new
-world_is w es ss ms ds js new k at j commit seen names epoch adds more messages welcome said after same h last sent numbers journals made told =
-    let journal_entries : new ≡ js ++ with_entry j (record { commit = commit; named_messages = names }) ∷ [] = journals ∙ ap (λ (c : List ℕ). js ++ with_entry j (record { commit = c; named_messages = names }) ∷ []) sent in
-    let made_1 : after ≡ ds ++ making k (length js) epoch adds said ∷ [] = made ∙ ap (λ (n : ℕ). made_with ds (making k n epoch adds said)) last in
-    let made_2 : after ≡ ds ++ making k (length js) epoch adds welcome ∷ [] = made_1 ∙ ap (λ (z : Option (ℕ × List ℕ)). made_with ds (making k (length js) epoch adds z)) numbers in
-    rw (told, made_2, journal_entries) (sym (added w es ss ms more ds js k j commit names epoch adds welcome same h))
+world_is w es ss ms ds js new k at j commit seen names epoch adds more messages welcome said after same h m journal sent numbers made told =
+    let is : journal_at new at ≡ with_entry j (record { commit = commit; named_messages = names }) = journal ∙ ap (λ (c : List ℕ). with_entry j (record { commit = c; named_messages = names })) sent in
+    let made_1 : after ≡ ds ++ making k at epoch adds welcome ∷ [] = made ∙ ap (λ (z : Option (ℕ × List ℕ)). made_with ds (making k at epoch adds z)) numbers in
+    rw (told, made_1) (sym (added w es ss ms more ds js new k at j commit names epoch adds welcome same h m is))
 
-pub recorded_is : {X : Type 0} (f : X → List ℕ) (w : World) (es : List Entrant) (ss : List Seated) (ms messages : List (List ℕ)) (ds before after : List Making) (js new : List Journal) (k at n : ℕ) (x y : Seated) (s : Seat) (p : Pending)
+pub recorded_is : {X : Type 0} (f : X → List ℕ) (w : World) (es : List Entrant) (ss : List Seated) (ms messages : List (List ℕ)) (ds before after : List Making) (js mid new : List Journal) (k at n : ℕ) (x y : Seated) (s : Seat) (p : Pending)
     (commit seen : List ℕ) (o : Option X) (names adds : List (List ℕ)) (epoch : List ℕ) (said : Option (ℕ × List ℕ)) (answered : Option ℕ)
     → world_of es ss ms ds js ≡ w → AreStored ss ds js → y ≡ x → x ≡ get_or ss k x → k < length w.seats → slice_get w.seats k ≡ Some s → epoch ≡ p.epoch_secret → n ≡ length ms
-    → at ≡ length js → seen ≡ commit → new ≡ js ++ with_entry (journal_at js y.journal) (record { commit = seen; named_messages = names }) ∷ []
+    → mid ≡ js → AreMore mid new → journal_at new at ≡ with_entry (journal_at mid y.journal) (record { commit = seen; named_messages = names }) → seen ≡ commit
     → said ≡ option_map (λ (v : X). (n + 1, f v)) o → before ≡ ds → after ≡ before ++ making k at epoch adds said ∷ []
     → messages ≡ ms ++ messages_with commit (option_map f o) → answered ≡ option_map (λ (bytes : List ℕ). n + 1) (option_map f o)
     → record_commit w k s p.epoch_secret (commit, option_map f o) names adds ≡ (reply.Commit n answered, world_of es ss messages after new)
-recorded_is f w es ss ms messages ds before after js new k at n x y s p commit seen o names adds epoch said answered same h is_x read lt found is count last sent journals numbers b a told replied =
+recorded_is f w es ss ms messages ds before after js mid new k at n x y s p commit seen o names adds epoch said answered same h is_x read lt found is count as_before m journal sent numbers b a told replied =
     let j : Journal = journal_at js y.journal in
     let r : Option (List ℕ) = option_map f o in
     let seat : seat_of js y ≡ s = seat_is w es ss ms ds js k x y s same is_x read lt found in
@@ -149,8 +149,10 @@ recorded_is f w es ss ms messages ds before after js new k at n x y s p commit s
     let e2 : record_of w k s.journal p.epoch_secret commit r names adds n ≡ record_of w k j p.epoch_secret commit r names adds n = ap (λ (z : Seat). record_of w k z.journal p.epoch_secret commit r names adds n) (sym seat) in
     let e3 : record_of w k j p.epoch_secret commit r names adds n ≡ record_of w k j epoch commit r names adds n = ap (λ (z : List ℕ). record_of w k j z commit r names adds n) (sym is) in
     let made_is : after ≡ ds ++ making k at epoch adds said ∷ [] = a ∙ ap (λ (l : List Making). made_with l (making k at epoch adds said)) b in
+    let more : AreMore js new = subst (λ (l : List Journal). AreMore l new) as_before m in
+    let there : journal_at new at ≡ with_entry j (record { commit = seen; named_messages = names }) = journal ∙ ap (λ (l : List Journal). with_entry (journal_at l y.journal) (record { commit = seen; named_messages = names })) as_before in
     let e4 : recorded_with w k j commit names epoch adds (messages_with commit r) (numbered (n + 1) r) ≡ world_of es ss messages after new =
-    world_is w es ss ms ds js new k at j commit seen names epoch adds (messages_with commit r) messages (numbered (n + 1) r) said after same h last sent (numbers ∙ fused f (n + 1) o) journals made_is told in
+    world_is w es ss ms ds js new k at j commit seen names epoch adds (messages_with commit r) messages (numbered (n + 1) r) said after same h more there sent (numbers ∙ fused f (n + 1) o) made_is told in
     let reply_is : reply.Commit n (option_map (λ (bytes : List ℕ). n + 1) r) ≡ reply.Commit n answered = ap (λ (z : Option ℕ). reply.Commit n z) (sym replied) in
     e1 ∙ e2 ∙ e3
     ∙ ap (λ (q : Reply). the_pair q (recorded_with w k j commit names epoch adds (messages_with commit r) (numbered (n + 1) r))) reply_is

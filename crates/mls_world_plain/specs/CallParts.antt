@@ -16,7 +16,7 @@ use Rattle.mls_model.specs.declared.event.Reply.{Reply}
 use Rattle.mls_model.specs.declared.event.Reply.TheVariants as reply
 use Rattle.mls_model.specs.Candidate.{Candidate, new_candidate, package_message}
 use Rattle.mls_model.specs.Member.{KeptProposal}
-use Rattle.mls_model.specs.Journal.{Journal, CommitMade, names_in, adds_in}
+use Rattle.mls_model.specs.Journal.{Entry, Journal, CommitMade, names_in, adds_in}
 use Rattle.mls_model.specs.Make.{commit_call}
 use Rattle.mls_model.specs.Verdict.{verdict}
 use Rattle.mls_model.specs.Propose.{propose_extensions}
@@ -24,7 +24,8 @@ use Rattle.mls_model.specs.WorldCalls.{journal_after, proposal_answer}
 use Rattle.mls_model.specs.World.{World, Entrant, Seat, with_member, seat_at, has_source, commit_for_joiner}
 use Rattle.mls_world_plain.specs.declared.error.WorldError.{WorldError}
 use Rattle.mls_world_plain.specs.Faults.{number_of}
-use Rattle.mls_world_plain.specs.StoredWorld.{Making, Seated, commit_made_of, seat_of}
+use Rattle.mls_world_plain.specs.JournalSteps.{Follows, SameJournals}
+use Rattle.mls_world_plain.specs.StoredWorld.{JournalStore, Making, Seated, commit_made_of, seat_of}
 
 -- ---- candidates
 
@@ -65,6 +66,12 @@ seat_verdict c s bytes = verdict c s.member bytes >>= λ x. Ok (x.0, record { me
 -- bytes are handed to the member in a seat, whose journal stands among these
 abbrev pub HandsOver : Crypto → List Journal → Seated → List Journal → Seated → List ℕ → Result Effect WorldError → Type 0
 HandsOver c js s ks t bytes result = DoesAs (λ (e : Effect). e) number_of (seat_verdict c (seat_of js s) bytes) (seat_of js s) (seat_of ks t) result
+
+-- what bytes that were handed to a member at journal b leave of the store: a commit that it followed is an entry there,
+-- and it stands at journal n; else all is as before
+abbrev pub StoresEntry : JournalStore → ℕ → Entry → JournalStore → ℕ → Result Effect WorldError → Type 0
+StoresEntry old b e new n (Ok (effect.Advanced epoch)) = Follows old b e new n
+StoresEntry old b e new n other = SameJournals old new
 
 -- ---- commits
 

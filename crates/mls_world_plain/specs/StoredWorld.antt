@@ -34,6 +34,12 @@ pub record HasEntry (js : List Journal) (n : ℕ) : Type 0 where
   pub within : n < length js
   pub follows : with_entry (journal_before (journal_at js n)) (latest (journal_at js n)) ≡ journal_at js n
 
+-- journals, the number of the latest that goes on from each, where one does, and for how many more there is room
+pub record JournalStore : Type 0 where
+  pub list : List Journal
+  pub followers : List (Option ℕ)
+  pub room : ℕ
+
 -- other journals stand behind these
 pub record AreMore (old new : List Journal) : Type 0 where
   pub more : List Journal

@@ -120,12 +120,13 @@ impl<S: Suite> PlainWorld<S> {
         let epoch_secret = self.pending_epoch(k);
         self.messages.reserve(2)?;
         self.made.reserve(1)?;
+        self.journals.reserve()?;
         let message = self.messages.len();
         let welcome = welcome_with_number(self.alloc, message + 1, &made)?;
         let commit = Bytes::from_vec(Vec::from_slice(self.alloc, &made.commit)?);
         let Named { names, adds } = named;
         let before = self.seats[k].journal;
-        let journal = self.journals.follow(before, Entry { commit, names })?;
+        let journal = self.journals.follow(before, Entry { commit, names });
         self.made.push_reserved(Making {
             maker: k,
             journal,

@@ -6,7 +6,7 @@ ghost use Rattle.mls_model.specs.Verdict.{verdict};
 ghost use Rattle.mls_world_plain.specs.Faults.{number_of};
 ghost use Rattle.mls_model.specs.Journal.{list_in, entry_of};
 ghost use Rattle.mls_world_plain.specs.CallAnswers.{DeliversTo};
-ghost use Rattle.mls_world_plain.specs.CallParts.{is_advanced, HandsOver};
+ghost use Rattle.mls_world_plain.specs.CallParts.{is_advanced, HandsOver, StoresEntry};
 ghost use Rattle.mls_world_plain.specs.CommitItems.{IsListOfMessage, IsListOfView};
 ghost use Rattle.mls_world_plain.specs.EarlyChecks.{early_delivery_checks, RefusesEarly};
 ghost use Rattle.mls_world_plain.specs.StoredWorld.{AreMore};
@@ -104,17 +104,20 @@ fn early_refusal<S: Suite>(member: &Member<S>, bytes: &[u8], error: AllocError) 
 }
 
 /// Hands bytes to a member. Its journal has one more entry where it follows a commit.
-#[tactic(auto, using(crate::proofs::Changing::advanced, crate::proofs::Changing::stayed, crate::proofs::Changing::failed, crate::proofs::Changing::one_behind, crate::proofs::Changing::none_behind, crate::proofs::Changing::last_within, mls_member::proofs::EarlyChecks::process_early))]
+#[tactic(auto, using(crate::proofs::Changing::advanced, crate::proofs::Changing::stayed, crate::proofs::Changing::failed, crate::proofs::Changing::seat_same, crate::proofs::Changing::none_behind, crate::proofs::Following::follows_here, crate::proofs::Following::stores_followed, crate::proofs::Following::stores_none, crate::proofs::Following::more_same, crate::proofs::Following::more_behind, crate::proofs::Following::within_same, mls_member::proofs::EarlyChecks::process_early))]
 fn hand_bytes<S: Suite>(
     alloc: Global,
     seat: &mut Seat<S>,
     journals: &mut Journals,
     bytes: &[u8],
 ) -> Result<Effect, WorldError>
-    requires { seat.old.journal < length journals.old }
-    ensures does { HandsOver S.crypto journals.old seat.old journals.new seat.new bytes.now result }
-    ensures more { AreMore journals.old journals.new }
-    ensures within { seat.new.journal < length journals.new }
+    requires { seat.old.journal < length journals.old.list }
+    ensures does { HandsOver S.crypto journals.old.list seat.old journals.new.list seat.new
+        bytes.now result }
+    ensures stores { StoresEntry journals.old seat.old.journal (entry_of seat.old.member bytes.now)
+        journals.new seat.new.journal result }
+    ensures more { AreMore journals.old.list journals.new.list }
+    ensures within { seat.new.journal < length journals.new.list }
     // What the member refuses before anything grows comes also when an allocation fails.
     ensures outright { RefusesEarly (early_member_checks seat.old.member bytes.now) result }
 {
@@ -122,23 +125,18 @@ fn hand_bytes<S: Suite>(
         Ok(entry) => entry,
         Err(error) => return Err(early_refusal(&seat.member, bytes, error)),
     };
-    let next = match journals.follow(seat.journal, entry) {
-        Ok(next) => next,
-        Err(error) => return Err(early_refusal(&seat.member, bytes, error)),
-    };
+    if let Err(error) = journals.reserve() {
+        return Err(early_refusal(&seat.member, bytes, error));
+    }
     match seat.member.process(bytes) {
         Ok(effect) => {
             if is_advanced(&effect) {
-                seat.journal = next;
+                seat.journal = journals.follow(seat.journal, entry);
                 return Ok(effect);
             }
-            journals.take_back();
             Ok(effect)
         }
-        Err(refusal) => {
-            journals.take_back();
-            Err(WorldError::Member(refusal))
-        }
+        Err(refusal) => Err(WorldError::Member(refusal)),
     }
 }
 

@@ -1,6 +1,6 @@
 //! What journals are made of.
 
-ghost use Rattle.std.specs.Prelude.{◌≡◌};
+ghost use Rattle.std.specs.Prelude.{◌≡◌, ◌↔◌, IsTrue};
 
 use mls_leaf::Bytes;
 use mls_model::Origin;
@@ -35,6 +35,16 @@ impl Entry {
     {
         &self.names
     }
+
+    /// Whether two entries are the same.
+    pub(crate) fn is_same(&self, other: &Entry) -> bool
+        ensures { IsTrue result ↔ (self.now ≡ other.now) }
+    {
+        if self.commit != other.commit {
+            return false;
+        }
+        self.names == other.names
+    }
 }
 
 /// How a journal begins, or goes on from one that stands before it in the store.
@@ -42,4 +52,11 @@ impl Entry {
 pub(crate) enum JournalStep {
     Begun(Origin),
     Followed { before: usize, entry: Entry },
+}
+
+/// A step, and the number of the latest one that goes on from it, where one does.
+#[derive(Drop)]
+pub(crate) struct StoredStep {
+    pub(crate) step: JournalStep,
+    pub(crate) follower: Option<usize>,
 }

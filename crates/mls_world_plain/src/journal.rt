@@ -1,12 +1,13 @@
-//! The journals of a world, in one store, where an entry costs no copy of what stands before it.
+//! The journals of a world, in one store. An entry costs no copy of what stands before it, and the members that follow
+//! one commit from one journal share it.
 
-ghost use Rattle.std.specs.Prelude.{◌≡◌, ◌<◌, [], ◌∷◌, ◌++◌, length, option_map, slice_get, IfOk, OnOk, OnErr};
+ghost use Rattle.std.specs.Prelude.{◌≡◌, ◌↔◌, ◌<◌, [], ◌∷◌, ◌++◌, length, option_map, slice_get, slice_set, Some, None, if◌then◌else◌, is_ok, IfOk, IfSome, IsTrue, OnOk, OnErr};
 ghost use Rattle.std.specs.Option.{option_copied};
 ghost use Rattle.mls_model.specs.Journal as model;
-ghost use Rattle.mls_world_plain.specs.StoredWorld.{journal_at};
-ghost use Rattle.mls_world_plain.specs.JournalSteps.{earlier, journal_of, with_followed, GoesBack, HasStep, IsBefore, LosesLast};
+ghost use Rattle.mls_world_plain.specs.StoredWorld.{journal_at, AreMore};
+ghost use Rattle.mls_world_plain.specs.JournalSteps.{earlier, journal_of, AnswersShared, Follows, GoesBack, GoesOn, HasStep, IsBefore};
 
-use crate::entry::{Entry, JournalStep};
+use crate::entry::{Entry, JournalStep, StoredStep};
 use mls_model::Origin;
 use std::alloc::{AllocError, Global};
 use std::marker::Model;
@@ -14,86 +15,158 @@ use std::marker::Model;
 /// Journals by their numbers. Each is an origin, or one that stands before it with one more entry.
 #[derive(Drop)]
 pub(crate) struct Journals {
-    steps: Vec<JournalStep>,
+    steps: Vec<StoredStep>,
 }
 
 impl Model for Journals {
-    ghost use Rattle.std.specs.Prelude.{List, []};
-    ghost use Rattle.mls_model.specs.Journal as model;
+    ghost use Rattle.mls_world_plain.specs.StoredWorld.{JournalStore};
+    ghost use Rattle.mls_world_plain.specs.JournalSteps.{store_of, AreSteps};
 
-    ghost Value = { List model.Journal };
+    ghost Value = { JournalStore };
 
-    ghost use Rattle.mls_world_plain.specs.JournalSteps.{journals_of, GoBack};
+    ghost view = { λ j. store_of j.steps };
 
-    ghost view = { λ j. journals_of [] j.steps.items };
-
-    ghost invariant = { λ j. GoBack 0 j.steps.items };
+    ghost invariant = { λ j. AreSteps j.steps.items };
 }
 
 impl Journals {
     /// No journals.
-    #[tactic(auto, using(crate::proofs::JournalSteps::goes_none), unfolding(crate::specs::JournalSteps::journals_of))]
+    #[tactic(auto, using(crate::proofs::Following::none_stand, crate::proofs::Following::none_listed))]
     pub(crate) fn new(alloc: Global) -> Journals
-        ensures { result ≡ [] }
+        ensures { result.list ≡ [] }
     {
         Journals {
             steps: Vec::new(alloc),
         }
     }
 
-    /// Adds a journal, which begins here or goes on from one that is there.
-    #[tactic(auto, using(crate::proofs::JournalSteps::one_more, crate::proofs::JournalSteps::as_many, crate::proofs::JournalSteps::goes_behind))]
-    fn add(&mut self, step: JournalStep) -> Result<usize, AllocError>
-        requires { GoesBack (length self.old) step }
-        ensures ok { OnOk result (self.new ≡ self.old ++ (journal_of self.old step ∷ [])) }
-        ensures number { IfOk result (λ n. n ≡ length self.old) }
-        ensures err { OnErr result (self.new ≡ self.old) }
+    /// Makes room for one more journal.
+    #[tactic(auto, using(crate::proofs::Following::same_stand, crate::proofs::Following::same_list, crate::proofs::Following::same_followers))]
+    pub(crate) fn reserve(&mut self) -> Result<(), AllocError>
+        ensures room { OnOk result (0 < self.new.room) }
+        ensures list { self.new.list ≡ self.old.list }
+        ensures followers { self.new.followers ≡ self.old.followers }
+    {
+        self.steps.reserve(1)?;
+        Ok(())
+    }
+
+    /// Adds a journal, which begins here or goes on from one that is there. There is room.
+    #[tactic(auto, using(crate::proofs::Following::has_room, crate::proofs::Following::number_is, crate::proofs::Following::added_list, crate::proofs::Following::added_followers))]
+    fn add(&mut self, step: JournalStep) -> usize
+        requires back { GoesBack (length self.old.list) step }
+        requires room { 0 < self.old.room }
+        ensures list { self.new.list ≡ self.old.list ++ (journal_of self.old.list step ∷ []) }
+        ensures followers { self.new.followers ≡ self.old.followers ++ (None ∷ []) }
+        ensures number { result ≡ length self.old.list }
     {
         let number = self.steps.len();
-        self.steps.push(step)?;
-        Ok(number)
+        self.steps.push_reserved(StoredStep {
+            step,
+            follower: None,
+        });
+        number
     }
 
     /// Adds a journal, which begins here.
     pub(crate) fn begin(&mut self, origin: Origin) -> Result<usize, AllocError>
-        ensures ok { OnOk result (self.new ≡ self.old ++ (model.new_journal origin ∷ [])) }
-        ensures number { IfOk result (λ n. n ≡ length self.old) }
-        ensures err { OnErr result (self.new ≡ self.old) }
+        ensures ok { OnOk result (self.new.list
+            ≡ self.old.list ++ (model.new_journal origin ∷ [])) }
+        ensures number { IfOk result (λ n. n ≡ length self.old.list) }
+        ensures err { OnErr result (self.new.list ≡ self.old.list) }
+        ensures followers { self.new.followers
+            ≡ (if is_ok result then self.old.followers ++ (None ∷ []) else self.old.followers) }
     {
-        self.add(JournalStep::Begun(origin))
+        self.reserve()?;
+        Ok(self.add(JournalStep::Begun(origin)))
     }
 
-    /// Adds a journal, which is journal `before` with an entry.
-    pub(crate) fn follow(&mut self, before: usize, entry: Entry) -> Result<usize, AllocError>
-        requires { before < length self.old }
-        ensures ok { OnOk result (self.new ≡ with_followed self.old before entry) }
-        ensures number { IfOk result (λ n. n ≡ length self.old) }
-        ensures err { OnErr result (self.new ≡ self.old) }
+    /// Notes which journal is the latest that goes on from another.
+    #[tactic(auto, using(crate::proofs::Following::step_within))]
+    fn set_follower(&mut self, before: usize, number: usize)
+        requires there { before < length self.old.list }
+        requires on { GoesOn self.old.list before number }
+        ensures list { self.new.list ≡ self.old.list }
+        ensures followers { self.new.followers ≡ slice_set self.old.followers before (Some number) }
     {
-        self.add(JournalStep::Followed { before, entry })
+        let stored = &mut self.steps[before];
+        stored.follower = Some(number);
     }
 
-    /// Takes back the last journal.
-    #[tactic(auto, using(crate::proofs::JournalSteps::taken_back, crate::proofs::JournalSteps::goes_less))]
-    pub(crate) fn take_back(&mut self)
-        ensures { LosesLast self.old self.new }
+    /// The number of the latest journal that goes on from journal n, where one does.
+    #[tactic(auto, using(crate::proofs::Following::step_within))]
+    fn follower_of(&self, number: usize) -> Option<usize>
+        requires { number < length self.now.list }
+        ensures follower { slice_get self.now.followers number ≡ Some result }
+        ensures on { IfSome result (λ n. GoesOn self.now.list number n) }
     {
-        let number = self.steps.len();
-        self.steps.truncate(number.saturating_sub(1));
+        self.steps[number].follower
+    }
+
+    /// Whether the latest entry of journal n is this one.
+    #[tactic(auto, using(crate::proofs::Following::latest_compared, crate::proofs::Following::no_latest))]
+    fn has_latest(&self, number: usize, entry: &Entry) -> bool
+        requires { number < length self.now.list }
+        ensures { IsTrue result ↔ (slice_get (journal_at self.now.list number).entries 0
+            ≡ Some entry.now) }
+    {
+        match self.latest_of(number) {
+            Some(latest) => latest.is_same(entry),
+            None => false,
+        }
+    }
+
+    /// The number of the journal that members share who follow an entry from journal `before`, if there is one.
+    #[tactic(auto, using(crate::proofs::Following::shared_there, crate::proofs::Following::other_follower, crate::proofs::Following::no_follower))]
+    fn shared(&self, before: usize, entry: &Entry) -> Option<usize>
+        requires { before < length self.now.list }
+        ensures { AnswersShared self.now before entry.now result }
+    {
+        match self.follower_of(before) {
+            Some(number) => {
+                if self.has_latest(number, entry) {
+                    return Some(number);
+                }
+                None
+            }
+            None => None,
+        }
+    }
+
+    /// The number of the journal to which an entry is followed from journal `before`: the one that members share there,
+    /// else one that is added. There is room.
+    pub(crate) fn follow(&mut self, before: usize, entry: Entry) -> usize
+        requires there { before < length self.old.list }
+        requires room { 0 < self.old.room }
+        ensures is { journal_at self.new.list result
+            ≡ model.with_entry (journal_at self.old.list before) entry }
+        ensures within { result < length self.new.list }
+        ensures more { AreMore self.old.list self.new.list }
+        ensures follows { Follows self.old before entry self.new result }
+    {
+        match self.shared(before, &entry) {
+            Some(number) => number,
+            None => {
+                let number = self.add(JournalStep::Followed { before, entry });
+                self.set_follower(before, number);
+                number
+            }
+        }
     }
 
     /// The step of journal n.
+    #[tactic(auto, using(crate::proofs::Following::step_within))]
     fn step(&self, number: usize) -> &JournalStep
-        requires { number < length self.now }
-        ensures { HasStep self.now number result.now }
+        requires { number < length self.now.list }
+        ensures { HasStep self.now.list number result.now }
     {
-        &self.steps[number]
+        &self.steps[number].step
     }
 
     /// Where journal n begins.
     fn origin_of(&self, number: usize) -> &Origin
-        requires { number < length self.now }
-        ensures { result.now ≡ (journal_at self.now number).origin }
+        requires { number < length self.now.list }
+        ensures { result.now ≡ (journal_at self.now.list number).origin }
     {
         let mut at = number;
         loop {
@@ -106,8 +179,8 @@ impl Journals {
 
     /// The latest entry of journal n, where it has one.
     fn latest_of(&self, number: usize) -> Option<&Entry>
-        requires { number < length self.now }
-        ensures { option_copied result ≡ slice_get (journal_at self.now number).entries 0 }
+        requires { number < length self.now.list }
+        ensures { option_copied result ≡ slice_get (journal_at self.now.list number).entries 0 }
     {
         match self.step(number) {
             JournalStep::Begun(_) => None,
@@ -118,8 +191,8 @@ impl Journals {
     /// The number of the journal before the latest entry of journal n, where it has one.
     #[tactic(auto, using(crate::proofs::JournalSteps::before_entry))]
     fn number_before(&self, number: usize) -> Option<usize>
-        requires { number < length self.now }
-        ensures { IsBefore self.now number result }
+        requires { number < length self.now.list }
+        ensures { IsBefore self.now.list number result }
     {
         match self.step(number) {
             JournalStep::Begun(_) => None,
@@ -143,16 +216,16 @@ impl<'a> Model for Journal<'a> {
 
     ghost use Rattle.mls_world_plain.specs.StoredWorld.{journal_at};
 
-    ghost view = { λ j. journal_at j.journals.now j.number };
+    ghost view = { λ j. journal_at j.journals.now.list j.number };
 
-    ghost invariant = { λ j. j.number < length j.journals.now };
+    ghost invariant = { λ j. j.number < length j.journals.now.list };
 }
 
 impl<'a> Journal<'a> {
     /// Journal n of a store.
     pub(crate) fn of(journals: &'a Journals, number: usize) -> Journal<'a>
-        requires { number < length journals.now }
-        ensures { result ≡ journal_at journals.now number }
+        requires { number < length journals.now.list }
+        ensures { result ≡ journal_at journals.now.list number }
     {
         Journal { journals, number }
     }

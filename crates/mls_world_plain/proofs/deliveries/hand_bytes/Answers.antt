@@ -9,12 +9,12 @@ returns-then-is_advanced-clause-outright g c = λ n h.
     process_early c.seat.inside.member c.args.bytes.now _ c.in-Ok-process.ensures.gone c.in-Ok-process.ensures.outright n
     (subst (λ (s : Seated). early_member_checks s.member c.args.bytes.now ≡ Err n) (sym c.seat.view_is) h)
 
-pub returns-else-is_advanced-clause-outright : goal.returns-else-is_advanced-clause-outright
-returns-else-is_advanced-clause-outright g c = λ n h.
+pub returns-in-Ok-process-clause-outright : goal.returns-in-Ok-process-clause-outright
+returns-in-Ok-process-clause-outright g c = λ n h.
     process_early c.seat.inside.member c.args.bytes.now _ c.in-Ok-process.ensures.gone c.in-Ok-process.ensures.outright n
     (subst (λ (s : Seated). early_member_checks s.member c.args.bytes.now ≡ Err n) (sym c.seat.view_is) h)
 
-pub returns-in-Err-process-clause-outright : goal.returns-in-Err-process-clause-outright
-returns-in-Err-process-clause-outright g c = λ n h.
+pub returns-clause-outright : goal.returns-clause-outright
+returns-clause-outright g c = λ n h.
     process_early c.seat.inside.member c.args.bytes.now _ c.in-Err-process.ensures.gone c.in-Err-process.ensures.outright n
     (subst (λ (s : Seated). early_member_checks s.member c.args.bytes.now ≡ Err n) (sym c.seat.view_is) h)

@@ -28,7 +28,7 @@ returns-clause-does g c =
     let w : World = c.args.self.now in
     let same : c.entrant.inside.candidate ≡ c.in-Ok.entrant.now.candidate = ap (λ (x : Entrant). x.candidate) c.entrant.view_is in
     let stored = c.self.inside.seats.ok.0 in
-    let seats : length w.seats ≡ length c.self.inside.seats.items = ap (λ (x : World). length x.seats) (sym c.self.view_is) ∙ length-map c.self.inside.seats.items (seat_of c.self.inside.journals) in
+    let seats : length w.seats ≡ length c.self.inside.seats.items = ap (λ (x : World). length x.seats) (sym c.self.view_is) ∙ length-map c.self.inside.seats.items (seat_of c.self.inside.journals.list) in
     let at : c.len.result ≡ length w.seats = omega (arith, c.len.ensures, stored, seats) in
     create_is g.S.Suite.crypto w c.begin_member.new.self c.args.candidate c.in_ok-number.number c.args.group.now c.args.seed.now c.in-Ok.entrant.now c.in-Ok-create.member c.in-Ok.ensures
     (ap (λ (x : Candidate). create_group g.S.Suite.crypto x c.args.group.now c.args.seed.now) (sym same) ∙ c.in-Ok-create.ensures.answer)
