@@ -13,6 +13,23 @@ fn export_key(alloc: Global, member: &Member<Suite0001>) -> Result<String> {
     Ok(hex::encode(alloc, key.as_slice())?)
 }
 
+/// Two members speak to each other.
+fn speak(
+    rt: &impl Print,
+    alloc: Global,
+    alice: &Member<Suite0001>,
+    bob: &Member<Suite0001>,
+) -> Result<()> {
+    let mut hers = Conversation::of(alloc, alice)?;
+    let mut his = Conversation::of(alloc, bob)?;
+    let heard = his.open(&hers.seal(b"hello", &[], 0, &[8; 32])?)?;
+    let answer = hers.open(&his.seal(b"hi", &[], 0, &[9; 32])?)?;
+    let (hello, hi) = (heard.application_data, answer.application_data);
+    println!(rt; "bob hears {}", from_utf8(hello.as_slice())?)?;
+    println!(rt; "alice hears {}", from_utf8(hi.as_slice())?)?;
+    Ok(())
+}
+
 fn run(rt: &impl Print, alloc: Global) -> Result<()> {
     // Alice creates a group, and adds Bob, who joins by the Welcome.
     let alice = Candidate::new(alloc, b"alice", &[1; 32])?;
@@ -27,15 +44,7 @@ fn run(rt: &impl Print, alloc: Global) -> Result<()> {
     let saved = bob.save()?;
     drop(bob);
     let mut bob: Member<Suite0001> = Member::load(alloc, &saved)?;
-
-    // They speak to each other.
-    let mut hers = Conversation::of(alloc, &alice)?;
-    let mut his = Conversation::of(alloc, &bob)?;
-    let heard = his.open(&hers.seal(b"hello", &[], 0, &[8; 32])?)?;
-    let answer = hers.open(&his.seal(b"hi", &[], 0, &[9; 32])?)?;
-    let (hello, hi) = (heard.application_data, answer.application_data);
-    println!(rt; "bob hears {}", from_utf8(hello.as_slice())?)?;
-    println!(rt; "alice hears {}", from_utf8(hi.as_slice())?)?;
+    speak(rt, alloc, &alice, &bob)?;
 
     // Bob proposes a new key for his leaf, and Alice commits all that she keeps.
     alice.process(&bob.propose_update(&[5; 32])?)?;
