@@ -18,8 +18,7 @@ told_same false differ e f = absurd cc
 -- the commits are the same, and what they name decides
 pub entries_compared : (commit other : List ℕ) (names more : List (List ℕ)) (a b : Entry) (r : Bool) → the_entry commit names ≡ a → the_entry other more ≡ b → bytes_eq commit other ≡ true → r ≡ pointwise bytes_eq names more → (r ≡ true → a ≡ b) × (a ≡ b → r ≡ true)
 entries_compared commit other names more a b r this that same named =
-    let d = slice_eq-Decides bytes_eq-Decides names more r named in
-    (
+    let d = slice_eq-Decides bytes_eq-Decides names more r named in (
       λ t. sym this ∙ same_parts (the_entry commit names) (the_entry other more) ((bytes_eq-Decides commit other).0 same) (d.0 t) ∙ that,
       λ e. d.1 (ap (λ (x : Entry). x.named_messages) (this ∙ e ∙ sym that)),
     )

@@ -1,5 +1,5 @@
 -- What a store of journals does.
-use Rattle.std.proofs.Common.{◌≡◌, ℕ, zero, suc, ◌<◌, ◌⊎◌, inl, inr, Bool, true, false, List, [], ◌∷◌, ◌++◌, ◌-◌, length, map, Option, Some, None, IfSome, option_map, Ok, slice_get, slice_set, get_or, refl, sym, ap, subst, ◌∙◌, arith}
+use Rattle.std.proofs.Common.{◌≡◌, ℕ, zero, suc, ◌<◌, ◌⊎◌, inl, inr, Bool, true, false, List, [], ◌∷◌, ◌++◌, ◌-◌, length, Option, Some, None, IfSome, option_map, Ok, slice_get, slice_set, get_or, refl, sym, ap, subst, ◌∙◌, arith}
 use Rattle.std.specs.Global.{Vec}
 use Rattle.std.specs.Vec.{vec_len, vec_capacity}
 use Rattle.std.proofs.lemmas.List.{append-nil, length-append, length-map, map-append, map-set}
@@ -164,6 +164,7 @@ module _ (v : Vec StoredStep) (t : JournalStore) (view : store_of v ≡ t) (n : 
     where
       on : GoOn t.list t.followers
       on = subst (λ (s : JournalStore). GoOn s.list s.followers) view h.on
+
       by : (f : Option ℕ) → slice_get t.followers n ≡ Some f → IfSome f (λ m. GoesOn t.list n m)
       by None e = tt
       by (Some m) e = on n m e
@@ -235,10 +236,13 @@ module _ (js mid : List Journal) (b : ℕ) (e : Entry) (n : ℕ) (list : mid ≡
 pub added_follows : (old mid new : JournalStore) (b : ℕ) (e : Entry) (n : ℕ) → ((k : ℕ) → Shares old b e k → ⊥) → mid.list ≡ old.list ++ journal_of old.list (Followed b e) ∷ [] → mid.followers ≡ old.followers ++ None ∷ [] → n ≡ length old.list → new.list ≡ mid.list → new.followers ≡ slice_set mid.followers b (Some n) → Follows old b e new n
 added_follows old mid new b e n none list followers last same set = record {
   shares = λ k g. absurd (none k g);
-  adds = λ _. (last, record {
-    list = same ∙ list;
-    followers = set ∙ ap (λ (fs : List (Option ℕ)). slice_set fs b (Some n)) followers ∙ ap (λ (k : ℕ). slice_set (old.followers ++ None ∷ []) b (Some k)) last;
-  });
+  adds = λ _. (
+    last,
+    record {
+      list = same ∙ list;
+      followers = set ∙ ap (λ (fs : List (Option ℕ)). slice_set fs b (Some n)) followers ∙ ap (λ (k : ℕ). slice_set (old.followers ++ None ∷ []) b (Some k)) last;
+    },
+  );
 }
 
 -- ---- room that is made changes nothing
