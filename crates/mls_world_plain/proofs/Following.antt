@@ -6,11 +6,11 @@ use Rattle.std.proofs.lemmas.List.{append-nil, length-append, length-map, map-ap
 use Rattle.std.proofs.lemmas.Option.{slice_get-map, slice_get_read, slice_get_within, same_Some}
 use Rattle.mls_model.specs.declared.effect.Effect.{Effect}
 use Rattle.mls_model.specs.declared.effect.Effect.TheVariants.{Proposed, Known, Advanced, Removed}
-use Rattle.mls_model.specs.Journal.{Entry, Journal, entry_of, with_entry}
+use Rattle.mls_model.specs.Journal.{Entry, Journal, with_entry}
 use Rattle.mls_world_plain.specs.declared.entry.JournalStep.{JournalStep}
 use Rattle.mls_world_plain.specs.declared.entry.JournalStep.TheVariants.{Followed}
 use Rattle.mls_world_plain.specs.declared.entry.StoredStep.{StoredStep}
-use Rattle.mls_world_plain.specs.StoredWorld.{journal_at, AreMore, JournalStore, Seated}
+use Rattle.mls_world_plain.specs.StoredWorld.{journal_at, AreMore, JournalStore}
 use Rattle.mls_world_plain.specs.JournalSteps.{journal_of, journals_of, with_followed, AddsFollower, AreSteps, Follows, GoBack, GoesBack, GoesOn, GoOn, HasStep, SameJournals, Shares, followers_of, steps_of, store_of}
 use Rattle.mls_world_plain.specs.CallParts.{is_advanced, StoresEntry}
 use Rattle.mls_world_plain.proofs.JournalSteps.{as_many, goes_behind, goes_none, journal_seam, journal_stays, one_more, step_at}
@@ -294,9 +294,3 @@ stores_none old new b e n (Proposed r) h g = g
 stores_none old new b e n (Known r) h g = g
 stores_none old new b e n (Advanced k) h g = absurd cc
 stores_none old new b e n Removed h g = g
-
-pub handed_follows : (old mid new : JournalStore) (s t : Seated) (bytes : List ℕ) (e : Entry) (n : ℕ) (f : Effect) → s ≡ t → e ≡ entry_of s.member bytes → mid.list ≡ old.list → mid.followers ≡ old.followers → true ≡ is_advanced f → Follows mid s.journal e new n
-    → StoresEntry old t.journal (entry_of t.member bytes) new n (Ok f)
-handed_follows old mid new s t bytes e n f view is list followers goes h =
-    let here : Follows old s.journal (entry_of s.member bytes) new n = subst (λ (x : Entry). Follows old s.journal x new n) is (follows_here old mid list followers s.journal e new n h) in
-    stores_followed old new t.journal (entry_of t.member bytes) n f goes (subst (λ (x : Seated). Follows old x.journal (entry_of x.member bytes) new n) view here)
