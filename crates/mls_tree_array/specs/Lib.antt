@@ -1,3 +1,5 @@
+pub mod Spans
+pub mod Changes
 pub mod Standing
 pub mod StandingLaws
 pub mod Merging
