@@ -11,7 +11,6 @@ pub mod EndOfMembers
 pub mod Splits
 pub mod WayHashes
 pub mod Additions
-pub mod Edits
 pub mod RightLists
 pub mod Originals
 pub mod Validity

@@ -7,7 +7,7 @@ ghost use Rattle.mls_tree_index.specs.Indexes.{Indexes, SameIndex, AnswersHeld, 
 use crate::blocks::Blocks;
 use crate::entries::{is_again, sort_entries};
 use crate::kind::KeyKind;
-use mls_tree_slot::Slot;
+use mls_tree_cells::Cells;
 use std::alloc::{AllocError, Global};
 use std::marker::Model;
 
@@ -31,10 +31,10 @@ impl Model for Index {
 
 impl Index {
     /// The index of these cells. Their entries are sorted, and each that has the key of the one before it is counted.
-    pub fn build(alloc: Global, kind: KeyKind, cells: &[Slot]) -> Result<Index, AllocError>
-        requires { length cells.now ≤ 2 ^ 32 }
+    pub fn build(alloc: Global, kind: KeyKind, cells: &Cells) -> Result<Index, AllocError>
+        requires { length cells.now.nodes ≤ 2 ^ 32 }
         ensures kind { IfOk result (λ t. t.kind ≡ kind) }
-        ensures built { IfOk result (λ t. Indexes cells.now t) }
+        ensures built { IfOk result (λ t. Indexes cells.now.nodes t) }
     {
         let entries = sort_entries(alloc, kind, cells)?;
         let mut numbers = Vec::with_capacity(alloc, entries.len())?;
@@ -63,16 +63,16 @@ impl Index {
     }
 
     /// Whether some cell has this key. The cells may have more keys than those that the index is of.
-    pub fn holds(&self, cells: &[Slot], key: &[u8]) -> bool
-        ensures { AnswersHeld self.now cells.now key.now result }
+    pub fn holds(&self, cells: &Cells, key: &[u8]) -> bool
+        ensures { AnswersHeld self.now cells.now.nodes key.now result }
     {
         let spot = self.blocks.spot_of(self.kind, cells, key, 0);
         self.blocks.is_key_at(self.kind, cells, spot, key)
     }
 
     /// A cell that has this key, where there is one.
-    pub(crate) fn holder(&self, cells: &[Slot], key: &[u8]) -> Option<u32>
-        ensures { Indexes cells.now self.now → IsHolder self.now.kind cells.now key.now result }
+    pub(crate) fn holder(&self, cells: &Cells, key: &[u8]) -> Option<u32>
+        ensures { Indexes cells.now.nodes self.now → IsHolder self.now.kind cells.now.nodes key.now result }
     {
         let spot = self.blocks.spot_of(self.kind, cells, key, 0);
         let Some(x) = self.blocks.number_at(spot) else {
@@ -86,11 +86,11 @@ impl Index {
     }
 
     /// Enters a cell: after it was filled, where it was blank. Where the cell has no key, all stays.
-    pub fn enter(&mut self, cells: &[Slot], x: u32)
+    pub fn enter(&mut self, cells: &Cells, x: u32)
         requires { 0 < self.old.room }
         ensures kind { self.new.kind ≡ self.old.kind }
         ensures room { self.old.room ≤ suc self.new.room }
-        ensures entered { EntersCell x cells.now self.old self.new }
+        ensures entered { EntersCell x cells.now.nodes self.old self.new }
     {
         let Some(key) = self.kind.key_in(cells, x) else {
             return;
@@ -104,10 +104,10 @@ impl Index {
     }
 
     /// Takes a cell out: before it is blanked or replaced. Where the cell has no key, all stays.
-    pub fn leave(&mut self, cells: &[Slot], x: u32)
+    pub fn leave(&mut self, cells: &Cells, x: u32)
         ensures kind { self.new.kind ≡ self.old.kind }
         ensures room { self.old.room ≤ self.new.room }
-        ensures left { LeavesCell x cells.now self.old self.new }
+        ensures left { LeavesCell x cells.now.nodes self.old self.new }
     {
         let Some(key) = self.kind.key_in(cells, x) else {
             return;

@@ -8,7 +8,7 @@ use Rattle.mls_tree_index.proofs.index.Index.accepts_beside.Goals as goal
 
 pub returns-clause-answer : goal.returns-clause-answer
 returns-clause-answer c = λ is.
-    let cells = c.args.cells.now in
+    let cells = c.args.cells.now.nodes in
     let places = c.args.places.now in
     let same = c.in_ok-rest.ensures.cases in
     let left = c.leave_all.ensures.left cells (record { wide = refl; part = λ x some. refl; here = λ x h. refl }) (same_index cells c.args.self.now c.in_ok-rest.rest same is) in

@@ -9,15 +9,15 @@ use Rattle.mls_tree_index.proofs.index.Index.enter.Goals as goal
 
 pub returns-in_default-clause-entered : goal.returns-in_default-clause-entered
 returns-in_default-clause-entered c = λ b d without is.
-    let none = ap (λ j. key_in j c.args.cells.now c.args.x) (sym (ap (λ (t : Listing). t.kind) c.self.view_is)) ∙ sym c.in_default.ensures in
-    nothing_entered c.args.x c.args.cells.now b d c.args.self.now without none is
+    let none = ap (λ j. key_in j c.args.cells.now.nodes c.args.x) (sym (ap (λ (t : Listing). t.kind) c.self.view_is)) ∙ sym c.in_default.ensures in
+    nothing_entered c.args.x c.args.cells.now.nodes b d c.args.self.now without none is
 
 pub returns-then-again-clause-entered : goal.returns-then-again-clause-entered
 returns-then-again-clause-entered c = λ b d without is.
     let s = c.args.self.now in
     let kind = c.self.inside.kind in
     let ns = concat c.self.inside.blocks.blocks in
-    let cells = c.args.cells.now in
+    let cells = c.args.cells.now.nodes in
     let p = place_of c.self.inside.blocks.blocks c.spot_of-spot.result in
     let kinds = ap (λ (t : Listing). t.kind) c.self.view_is in
     let numbers = ap (λ (t : Listing). t.numbers) c.self.view_is in
@@ -40,7 +40,7 @@ returns-else-again-clause-entered c = λ b d without is.
     let s = c.args.self.now in
     let kind = c.self.inside.kind in
     let ns = concat c.self.inside.blocks.blocks in
-    let cells = c.args.cells.now in
+    let cells = c.args.cells.now.nodes in
     let p = place_of c.self.inside.blocks.blocks c.spot_of-spot.result in
     let kinds = ap (λ (t : Listing). t.kind) c.self.view_is in
     let numbers = ap (λ (t : Listing). t.numbers) c.self.view_is in

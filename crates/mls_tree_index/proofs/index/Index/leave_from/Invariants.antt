@@ -7,9 +7,9 @@ abbrev pub invariant-loop-end : goal.invariant-loop-end
 invariant-loop-end l =
     (l.self.kind ≡ l.fn.self.kind)
     × (l.fn.self.room ≤ l.self.room)
-    × (l.end ≤ length l.cells)
-    × ((y : ℕ) → y < l.count → l.end ≤ y → length l.cells ≤ y)
-    × (Indexes l.cells l.fn.self → Indexes (front l.end l.cells) l.self)
+    × (l.end ≤ length l.cells.nodes)
+    × ((y : ℕ) → y < l.count → l.end ≤ y → length l.cells.nodes ≤ y)
+    × (Indexes l.cells.nodes l.fn.self → Indexes (front l.end l.cells.nodes) l.self)
 
 abbrev pub decreases-loop-end : goal.decreases-loop-end
 decreases-loop-end l = l.end
