@@ -1,13 +1,13 @@
 -- Laws of the changes on the way to a leaf: put into the cells of a tree, they make the edited tree of it.
-use Rattle.std.proofs.Common.{◌≡◌, ◌⊎◌, ℕ, zero, suc, ◌+◌, ◌*◌, ◌<◌, ◌≤◌, true, List, [], ◌∷◌, ◌++◌, length, get_or, take, drop, set, All, Option, Some, None, refl, sym, ◌∙◌, ap, arith, inl, inr, length-append, length-drop, append_assoc, append-nil, lt-ltb, le-ltb}
+use Rattle.std.proofs.Common.{◌≡◌, ◌⊎◌, ℕ, zero, suc, ◌+◌, ◌*◌, ◌<◌, ◌≤◌, true, List, [], ◌∷◌, ◌++◌, length, get_or, take, drop, set, All, Option, Some, None, refl, sym, ◌∙◌, ap, subst, arith, inl, inr, length-append, length-drop, append_assoc, append-nil, lt-ltb, le-ltb}
 use Rattle.std.specs.Prelude.{⊤}
 use Rattle.std.proofs.lemmas.List.{set_at, take-append-drop, drop_more, length-take-le}
 use Rattle.std.proofs.lemmas.List.Elements.{All-nil, All-cons, All-same, All-weaker}
-use Rattle.std.proofs.lemmas.Bool.{true≢false, and_parts, cases_lt, cond-true, cond-false}
+use Rattle.std.proofs.lemmas.Bool.{true≢false, and_parts, and_from, cases_lt, cond-true, cond-false}
 use Rattle.mls_leaf.specs.Parent.{Parent}
 use Rattle.mls_leaf.specs.declared.leaf.LeafNode.{LeafNode}
 use Rattle.mls_leaf.specs.declared.node.Node.{Node}
-use Rattle.mls_tree_cells.specs.declared.change.Change.{Change}
+use Rattle.mls_tree_cells.specs.declared.changes.Change.{Change}
 use Rattle.mls_tree_cells.specs.Cells.{put_nodes, drop_hashes_at}
 use Rattle.mls_tree_model.specs.Term.{Term, Leaf, Branch, width, size, is_perfect}
 use Rattle.mls_tree_model.specs.Edits.{put, enter, list_leaf}
@@ -102,15 +102,15 @@ module _ (b i : ℕ) (c d : Option Parent) (l r : Term) where
   unfolding DifferOnWay
   differ_right s ge k = inr (ge, refl, k)
 
-  differ_sides : (m s : Term) → DifferOnWay b i (Branch c l r) (Branch d m s) → ((i < b + width l) × (r ≡ s) × DifferOnWay b i l m) ⊎ ((b + width l ≤ i) × (l ≡ m) × DifferOnWay (b + width l) i r s)
+  pub differ_sides : (m s : Term) → DifferOnWay b i (Branch c l r) (Branch d m s) → ((i < b + width l) × (r ≡ s) × DifferOnWay b i l m) ⊎ ((b + width l ≤ i) × (l ≡ m) × DifferOnWay (b + width l) i r s)
   unfolding DifferOnWay
   differ_sides m s k = k
 
-no_branch : (b i : ℕ) (v : Option LeafNode) (d : Option Parent) (m s : Term) → DifferOnWay b i (Leaf v) (Branch d m s) → ⊥
+pub no_branch : (b i : ℕ) (v : Option LeafNode) (d : Option Parent) (m s : Term) → DifferOnWay b i (Leaf v) (Branch d m s) → ⊥
 unfolding DifferOnWay
 no_branch b i v d m s k = k
 
-no_leaf : (b i : ℕ) (c : Option Parent) (l r : Term) (w : Option LeafNode) → DifferOnWay b i (Branch c l r) (Leaf w) → ⊥
+pub no_leaf : (b i : ℕ) (c : Option Parent) (l r : Term) (w : Option LeafNode) → DifferOnWay b i (Branch c l r) (Leaf w) → ⊥
 unfolding DifferOnWay
 no_leaf b i c l r w k = k
 
@@ -154,6 +154,21 @@ width_differ b i (Branch c l r) (Branch d m s) k =
           let same : width l ≡ width m = ap width e.1 in
           let wide : width s ≡ width r = width_differ (b + width l) i r s e.2 in
           omega arith
+    ]
+
+-- they have one shape
+pub perfect_differ : (h b i : ℕ) (t u : Term) → is_perfect h t ≡ true → DifferOnWay b i t u → is_perfect h u ≡ true
+unfolding is_perfect
+perfect_differ zero b i (Leaf v) (Leaf w) p k = refl
+perfect_differ zero b i (Leaf v) (Branch d m s) p k = absurd (no_branch b i v d m s k)
+perfect_differ zero b i (Branch c l r) u p k = absurd (true≢false (sym p))
+perfect_differ (suc h) b i (Leaf v) u p k = absurd (true≢false (sym p))
+perfect_differ (suc h) b i (Branch c l r) (Leaf w) p k = absurd (no_leaf b i c l r w k)
+perfect_differ (suc h) b i (Branch c l r) (Branch d m s) p k =
+    let sides = and_parts (is_perfect h l) (is_perfect h r) p in
+    elim (differ_sides b i c d l r m s k) [
+      | inl e ↦ and_from (is_perfect h m) (is_perfect h s) (perfect_differ h b i l m sides.0 e.2) (subst (λ t. is_perfect h t ≡ true) e.1 sides.1)
+      | inr e ↦ and_from (is_perfect h m) (is_perfect h s) (subst (λ t. is_perfect h t ≡ true) e.1 sides.0) (perfect_differ h (b + width l) i r s sides.1 e.2)
     ]
 
 -- ---- changes, one after the other
@@ -203,19 +218,21 @@ nodes_on_way b i (Branch c l r) (Branch d m s) pre post k at =
       | inl e ↦
           let wide : width m ≡ width l = width_differ b i l m e.2 in
           let many : size m ≡ size l = size_from_width m l wide in
+          let place : length pre + length (in_order l) ≡ 2 * b + size m = omega arith in
           ap (λ cs. put_nodes cs (pre ++ (in_order (Branch c l r) ++ post))) (cells_on_way_left b d m s i (let lt = e.0 in omega arith))
           ∙ ap (λ ys. put_nodes (root ∷ cells_on_way b m i) (pre ++ (ys ++ post))) (in_order-branch c l r)
-          ∙ change_left put_nodes (λ c. c.slot) no_nodes first_node root (cells_on_way b m i) pre (in_order l) (in_order m) (in_order r) post (parent_cell c) (omega arith)
+          ∙ change_left put_nodes (λ c. c.slot) no_nodes first_node root (cells_on_way b m i) pre (in_order l) (in_order m) (in_order r) post (parent_cell c) place
           (λ z. nodes_on_way b i l m pre z e.2 at)
           ∙ ap (λ t. pre ++ ((in_order m ++ (parent_cell d ∷ in_order t)) ++ post)) e.1
           ∙ ap (λ ys. pre ++ (ys ++ post)) (sym (in_order-branch d m s))
       | inr e ↦
           let wide : width l ≡ width m = ap width e.1 in
           let many : size l ≡ size m = ap size e.1 in
+          let place : length pre + length (in_order l) ≡ 2 * b + size m = omega arith in
           ap (λ cs. put_nodes cs (pre ++ (in_order (Branch c l r) ++ post))) (cells_on_way_right b d m s i (let ge = e.0 in omega arith))
           ∙ ap (λ ys. put_nodes (root ∷ cells_on_way (b + width m) s i) (pre ++ (ys ++ post))) (in_order-branch c l r)
           ∙ ap (λ w. put_nodes (root ∷ cells_on_way (b + w) s i) (pre ++ ((in_order l ++ (parent_cell c ∷ in_order r)) ++ post))) (sym wide)
-          ∙ change_right put_nodes (λ c. c.slot) no_nodes first_node root (cells_on_way (b + width l) s i) pre (in_order l) (in_order r) (in_order s) post (parent_cell c) (omega arith)
+          ∙ change_right put_nodes (λ c. c.slot) no_nodes first_node root (cells_on_way (b + width l) s i) pre (in_order l) (in_order r) (in_order s) post (parent_cell c) place
           (λ z long. nodes_on_way (b + width l) i r s z post e.2 (omega arith))
           ∙ ap (λ t. pre ++ ((in_order t ++ (parent_cell d ∷ in_order s)) ++ post)) e.1
           ∙ ap (λ ys. pre ++ (ys ++ post)) (sym (in_order-branch d m s))
@@ -269,18 +286,20 @@ hashes_on_way b i (Branch c l r) (Branch d m s) pre hs post k at long =
       | inl e ↦
           let wide : width m ≡ width l = width_differ b i l m e.2 in
           let many : size m ≡ size l = size_from_width m l wide in
+          let place : length pre + length front ≡ 2 * b + size m = omega arith in
           ap (λ cs. drop_hashes_at cs (pre ++ (hs ++ post))) (cells_on_way_left b d m s i (let lt = e.0 in omega arith))
           ∙ ap (λ ys. drop_hashes_at (root ∷ cells_on_way b m i) (pre ++ (ys ++ post))) (at_root (size l) hs (omega arith))
-          ∙ change_left drop_hashes_at (λ c. None) no_hashes first_hash root (cells_on_way b m i) pre front (drop_hashes b l i front) back post (get_or hs (size l) None) (omega arith)
+          ∙ change_left drop_hashes_at (λ c. None) no_hashes first_hash root (cells_on_way b m i) pre front (drop_hashes b l i front) back post (get_or hs (size l) None) place
           (λ z. hashes_on_way b i l m pre front z e.2 at left)
           ∙ ap (λ ys. pre ++ (ys ++ post)) (sym (dropped_left b c l r i hs e.0))
       | inr e ↦
           let wide : width l ≡ width m = ap width e.1 in
           let many : size l ≡ size m = ap size e.1 in
+          let place : length pre + length front ≡ 2 * b + size m = omega arith in
           ap (λ cs. drop_hashes_at cs (pre ++ (hs ++ post))) (cells_on_way_right b d m s i (let ge = e.0 in omega arith))
           ∙ ap (λ ys. drop_hashes_at (root ∷ cells_on_way (b + width m) s i) (pre ++ (ys ++ post))) (at_root (size l) hs (omega arith))
           ∙ ap (λ w. drop_hashes_at (root ∷ cells_on_way (b + w) s i) (pre ++ ((front ++ (get_or hs (size l) None ∷ back)) ++ post))) (sym wide)
-          ∙ change_right drop_hashes_at (λ c. None) no_hashes first_hash root (cells_on_way (b + width l) s i) pre front back (drop_hashes (b + width l) r i back) post (get_or hs (size l) None) (omega arith)
+          ∙ change_right drop_hashes_at (λ c. None) no_hashes first_hash root (cells_on_way (b + width l) s i) pre front back (drop_hashes (b + width l) r i back) post (get_or hs (size l) None) place
           (λ z far. hashes_on_way (b + width l) i r s z back post e.2 (omega arith) right)
           ∙ ap (λ ys. pre ++ (ys ++ post)) (sym (dropped_right b c l r i hs e.0))
     ]

@@ -1,6 +1,6 @@
 -- Laws of the cells of a subtree among those of a whole tree, and of lists in which they are replaced.
-use Rattle.std.proofs.Common.{◌≡◌, ℕ, zero, suc, ◌+◌, ◌-◌, ◌*◌, ◌^◌, ◌<◌, ◌≤◌, List, [], ◌∷◌, ◌++◌, length, get_or, take, drop, set, refl, sym, ◌∙◌, ap, arith, length-append, length-drop, append_assoc}
-use Rattle.std.proofs.lemmas.List.{take_at, drop_at, set_at, set_split, take_all, take-take, take-append-drop, drop-drop, drop-take, drop_more, length-take-le, get_or-take, get_or-drop}
+use Rattle.std.proofs.Common.{◌≡◌, ℕ, zero, suc, ◌+◌, ◌-◌, ◌*◌, ◌^◌, ◌<◌, ◌≤◌, List, [], ◌∷◌, ◌++◌, length, get_or, take, drop, set, refl, sym, ◌∙◌, ap, arith, length-append, length-drop, append_assoc, append-nil}
+use Rattle.std.proofs.lemmas.List.{take_at, drop_at, set_at, set_split, take_all, take-take, take-append-drop, drop-drop, drop-take, drop_more, drop_all, length-take-le, get_or-take, get_or-drop, get_or_append_left}
 use Rattle.mls_treemath.specs.Paths.{nodes_in}
 use Rattle.mls_treemath.proofs.Sizes.{nodes_in-zero, nodes_in-suc}
 use Rattle.mls_tree_model.proofs.ArrayLaws.{nodes_in-leaves}
@@ -93,6 +93,24 @@ module _ {A : Type 0} (h b : ℕ) (ys xs : List A) (long : length ys ≡ nodes_i
   part_behind within =
       ap (take (nodes_in h)) (drop_spliced b (2 * (b + 2 ^ h)) ys xs (omega arith) (omega (arith, nodes_in-leaves h)))
 
+-- what is read behind it and before it
+get_or_spliced : {A : Type 0} (b k : ℕ) (ys xs : List A) (d : A) → 2 * b ≤ length xs → 2 * b + length ys ≤ k → get_or (splice b ys xs) k d ≡ get_or xs k d
+get_or_spliced b k ys xs d within behind =
+    let at : k + 0 ≡ k = omega arith in
+    ap (λ j. get_or (splice b ys xs) j d) (sym at)
+    ∙ sym (get_or-drop k (splice b ys xs) 0 d)
+    ∙ ap (λ zs. get_or zs 0 d) (drop_spliced b k ys xs within behind)
+    ∙ get_or-drop k xs 0 d
+    ∙ ap (λ j. get_or xs j d) at
+
+pub root_behind : {A : Type 0} (h b : ℕ) (ys xs : List A) (d : A) → length ys ≡ nodes_in h → 2 * b + nodes_in h ≤ length xs → get_or (splice b ys xs) (2 * b + nodes_in h) d ≡ get_or xs (2 * b + nodes_in h) d
+root_behind h b ys xs d long within = get_or_spliced b (2 * b + nodes_in h) ys xs d (omega arith) (omega arith)
+
+pub before_splice : {A : Type 0} (b n : ℕ) (ys xs : List A) (d : A) → n < 2 * b → 2 * b ≤ length xs → get_or (splice b ys xs) n d ≡ get_or xs n d
+before_splice b n ys xs d low within =
+    let front : length (take (2 * b) xs) ≡ 2 * b = length-take-le (2 * b) xs within in
+    get_or_append_left (take (2 * b) xs) (ys ++ drop (2 * b + length ys) xs) d n (omega arith) ∙ get_or-take (2 * b) xs n d low
+
 pub length_splice : {A : Type 0} (b : ℕ) (ys xs : List A) → 2 * b + length ys ≤ length xs → length (splice b ys xs) ≡ length xs
 length_splice b ys xs within =
     let front : length (take (2 * b) xs) ≡ 2 * b = length-take-le (2 * b) xs (omega arith) in
@@ -109,6 +127,9 @@ pub splice_part : {A : Type 0} (h b : ℕ) (xs : List A) → 2 * b + nodes_in h 
 splice_part h b xs within =
     ap (λ k. take (2 * b) xs ++ (part h b xs ++ drop (2 * b + k) xs)) (length_part h b xs within)
     ∙ sym (in_pieces (2 * b) (nodes_in h) xs)
+
+pub splice_whole : {A : Type 0} (ys xs : List A) → length ys ≡ length xs → splice 0 ys xs ≡ ys
+splice_whole ys xs long = ap (λ zs. ys ++ zs) (drop_all (2 * 0 + length ys) xs (omega arith)) ∙ append-nil ys
 
 -- ---- a root and its sides
 
@@ -191,36 +212,3 @@ splice_sides h b ls rs x xs as_left as_right within =
     ∙ root_set h b p ls rs q d before as_left as_right x
     ∙ sym (all_replaced h b p l r q d before l_long r_long ls rs x as_left as_right)
     ∙ ap (splice b (ls ++ (x ∷ rs))) (sym (five h b xs x within))
-
--- the root is set, and then a side is replaced
-pub splice_left : {A : Type 0} (h b : ℕ) (ls : List A) (x : A) (xs : List A) → length ls ≡ nodes_in h → 2 * b + nodes_in (suc h) ≤ length xs → splice b ls (set xs (2 * b + nodes_in h) x) ≡ splice b (ls ++ (x ∷ part h (b + 2 ^ h) xs)) xs
-splice_left h b ls x xs as_left within =
-    let p = front h b xs x within in
-    let l = left h b xs x within in
-    let d = root h b xs x within in
-    let r = right h b xs x within in
-    let q = rest h b xs x within in
-    let before = front_long h b xs x within in
-    let l_long = left_long h b xs x within in
-    let r_long = right_long h b xs x within in
-    ap (λ ys. splice b ls (set ys (2 * b + nodes_in h) x)) (five h b xs x within)
-    ∙ ap (splice b ls) (root_set h b p l r q d before l_long r_long x)
-    ∙ left_replaced h b p l r q x before l_long r_long ls as_left
-    ∙ sym (all_replaced h b p l r q d before l_long r_long ls r x as_left r_long)
-    ∙ ap (splice b (ls ++ (x ∷ r))) (sym (five h b xs x within))
-
-pub splice_right : {A : Type 0} (h b : ℕ) (rs : List A) (x : A) (xs : List A) → length rs ≡ nodes_in h → 2 * b + nodes_in (suc h) ≤ length xs → splice (b + 2 ^ h) rs (set xs (2 * b + nodes_in h) x) ≡ splice b (part h b xs ++ (x ∷ rs)) xs
-splice_right h b rs x xs as_right within =
-    let p = front h b xs x within in
-    let l = left h b xs x within in
-    let d = root h b xs x within in
-    let r = right h b xs x within in
-    let q = rest h b xs x within in
-    let before = front_long h b xs x within in
-    let l_long = left_long h b xs x within in
-    let r_long = right_long h b xs x within in
-    ap (λ ys. splice (b + 2 ^ h) rs (set ys (2 * b + nodes_in h) x)) (five h b xs x within)
-    ∙ ap (splice (b + 2 ^ h) rs) (root_set h b p l r q d before l_long r_long x)
-    ∙ right_replaced h b p l r q x before l_long r_long rs as_right
-    ∙ sym (all_replaced h b p l r q d before l_long r_long l rs x l_long as_right)
-    ∙ ap (splice b (l ++ (x ∷ rs))) (sym (five h b xs x within))
