@@ -1,8 +1,8 @@
 -- Laws of the cells of a subtree among those of a whole tree, and of lists in which they are replaced.
-use Rattle.std.proofs.Common.{◌≡◌, ℕ, zero, suc, ◌+◌, ◌-◌, ◌*◌, ◌^◌, ◌<◌, ◌≤◌, List, [], ◌∷◌, ◌++◌, length, get_or, take, drop, set, refl, sym, ◌∙◌, ap, arith, length-append, length-drop, append_assoc, append-nil}
+use Rattle.std.proofs.Common.{◌≡◌, ℕ, zero, suc, ◌+◌, ◌-◌, ◌*◌, ◌^◌, ◌<◌, ◌≤◌, List, [], ◌∷◌, ◌++◌, length, get_or, take, drop, set, refl, sym, ◌∙◌, ap, subst, arith, length-append, length-drop, append_assoc, append-nil}
 use Rattle.std.proofs.lemmas.List.{take_at, drop_at, set_at, set_split, take_all, take-take, take-append-drop, drop-drop, drop-take, drop_more, drop_all, length-take-le, get_or-take, get_or-drop, get_or_append_left}
 use Rattle.mls_treemath.specs.Paths.{nodes_in}
-use Rattle.mls_treemath.proofs.Sizes.{nodes_in-zero, nodes_in-suc}
+use Rattle.mls_treemath.proofs.Sizes.{nodes_in-zero, nodes_in-suc, nodes_in-pow}
 use Rattle.mls_tree_model.proofs.ArrayLaws.{nodes_in-leaves}
 use Rattle.mls_tree_array.specs.Spans.{part, splice}
 
@@ -40,6 +40,19 @@ middle_set p l r q x y n at =
 pub behind_element : {A : Type 0} (p l z : List A) (y : A) → p ++ (l ++ (y ∷ z)) ≡ (p ++ (l ++ (y ∷ []))) ++ z
 behind_element p l z y =
     ap (λ zs. p ++ zs) (sym (append_assoc l (y ∷ []) z)) ∙ sym (append_assoc p (l ++ (y ∷ [])) z)
+
+-- ---- heights and roots as code has them
+
+-- what holds of a height and of one less
+pub lowered : (P : ℕ → ℕ → Type 0) → ((k : ℕ) → P (suc k) k) → (h : ℕ) → 0 < h → P h (h - 1)
+lowered P f h pos = let up : suc (h - 1) ≡ h = omega arith in subst (λ j. P j (h - 1)) up (f (h - 1))
+
+-- the number of a root
+pub root_leaf : (h b r : ℕ) → h ≡ 0 → suc r ≡ 2 * b + 2 ^ h → r ≡ 2 * b
+root_leaf h b r low at = let one : 2 ^ h ≡ 1 = ap (λ k. 2 ^ k) low in omega arith
+
+pub root_suc : (k b r : ℕ) → suc r ≡ 2 * b + 2 ^ suc k → r ≡ 2 * b + nodes_in k
+root_suc k b r at = let all : suc (nodes_in k) ≡ 2 ^ suc k = nodes_in-pow k in omega arith
 
 -- ---- the part of a subtree
 

@@ -14,7 +14,7 @@ use Rattle.mls_tree_array.specs.KeptHashes.{hashes_of, drop_hashes}
 use Rattle.mls_tree_array.specs.WayHashes.{way_hashes, IsColdOnWay, keep_on_way}
 use Rattle.mls_tree_array.proofs.KeptLaws.{left_part, right_part, length-hashes_of, hashes_of_branch, length-drop_hashes, dropped_leaf, dropped_left, dropped_right}
 use Rattle.mls_tree_array.proofs.WayHashLaws.{way_hashes_leaf, way_hashes_left, way_hashes_right, length-way_hashes}
-use Rattle.mls_tree_array.proofs.SpanLaws.{middle_set, behind_element}
+use Rattle.mls_tree_array.proofs.SpanLaws.{middle_set, behind_element, lowered, root_leaf, root_suc}
 use Rattle.mls_tree_array.proofs.ChangeLaws.{DifferOnWay, differ_sides, no_branch, no_leaf, width_differ, perfect_differ}
 
 -- ---- nodes that are cold
@@ -94,7 +94,7 @@ cold_dropped (suc h) b i (Branch c l r) pre hs post p at long =
     let front : List (Option (List ℕ)) = take (size l) hs in
     let back : List (Option (List ℕ)) = drop (suc (size l)) hs in
     let left : length front ≡ size l = length-take-le (size l) hs (omega arith) in
-    let right : length back ≡ size r = simp length-drop (omega arith) in
+    let right : length back ≡ size r = length-drop (suc (size l)) hs ∙ omega arith in
     elim (cases_lt i (b + width l)) [
       | inl lt ↦
           let new : List (Option (List ℕ)) = drop_hashes b l i front in
@@ -110,7 +110,7 @@ cold_dropped (suc h) b i (Branch c l r) pre hs post p at long =
           let new : List (Option (List ℕ)) = drop_hashes (b + width l) r i back in
           let all : List (Option (List ℕ)) = pre ++ (front ++ (None ∷ (new ++ post))) in
           let before : List (Option (List ℕ)) = pre ++ (front ++ (None ∷ [])) in
-          let far : length before ≡ 2 * (b + width l) = simp length-append (omega arith) in
+          let far : length (pre ++ (front ++ (None ∷ []))) ≡ 2 * (b + width l) = simp length-append (omega arith) in
           let is : pre ++ (drop_hashes b (Branch c l r) i hs ++ post) ≡ all =
           ap (λ ys. pre ++ (ys ++ post)) (dropped_right b c l r i hs ge) ∙ ap (λ ys. pre ++ ys) (append_assoc front (None ∷ new) post) in
           subst (IsColdOnWay (suc h) b i) (sym is)
@@ -237,7 +237,7 @@ kept_on_way (suc h) b i (Branch c l r) (Branch d m s) pre post p k at =
           let first : List (Option (List ℕ)) = hashes_of b l in
           let long : length first ≡ size l = length-hashes_of b l in
           let before : List (Option (List ℕ)) = pre ++ (first ++ (Some top ∷ [])) in
-          let far : length before ≡ 2 * f = simp length-append (omega arith) in
+          let far : length (pre ++ (first ++ (Some top ∷ []))) ≡ 2 * (b + width l) = simp length-append (omega arith) in
           ap (λ ws. keep_on_way (suc h) b i ws (pre ++ (old ++ post))) (way_hashes_right b d m s i (omega arith) ∙ ap (λ w. way_hashes (b + w) s i ++ (top ∷ [])) (sym wide))
           ∙ keep_right h b i (lows ++ (top ∷ [])) (pre ++ (old ++ post)) (omega arith)
           ∙ kept_step h b (b + 2 ^ h) i lows top few (pre ++ (old ++ post))
@@ -257,3 +257,51 @@ kept_whole h i t u p k =
     ap (keep_on_way h 0 i (way_hashes 0 u i)) (sym (append-nil (drop_hashes 0 t i (hashes_of 0 t))))
     ∙ kept_on_way h 0 i t u [] [] p k (omega arith)
     ∙ append-nil (hashes_of 0 u)
+
+-- ---- as code has them: the root's number is r
+
+module _ (k b i r : ℕ) (hs : List (Option (List ℕ))) (x : Option (List ℕ)) (at : suc r ≡ 2 * b + 2 ^ suc k) where
+  left_stays : i < b + 2 ^ k → IsColdOnWay (suc k) b i hs → IsColdOnWay k b i (set hs r x)
+  left_stays lt cold =
+      let root = root_suc k b r at in
+      cold_below k b i r hs x (subst (λ c. IsColdOnWay k c i hs) (first_left k b i lt) (cold_parts k b i hs cold).1) (inr (omega arith))
+
+  right_stays : b + 2 ^ k ≤ i → IsColdOnWay (suc k) b i hs → IsColdOnWay k (b + 2 ^ k) i (set hs r x)
+  right_stays ge cold =
+      let root = root_suc k b r at in
+      cold_below k (b + 2 ^ k) i r hs x (subst (λ c. IsColdOnWay k c i hs) (first_right k b i ge) (cold_parts k b i hs cold).1) (inl (omega (arith, nodes_in-leaves k)))
+
+-- the root is cold
+pub cold_root : (h b i r : ℕ) (hs : List (Option (List ℕ))) → suc r ≡ 2 * b + 2 ^ h → IsColdOnWay h b i hs → get_or hs r (Some []) ≡ None
+cold_root zero b i r hs at cold = ap (λ j. get_or hs j (Some [])) (root_leaf 0 b r refl at) ∙ leaf_cold b i hs cold
+cold_root (suc h) b i r hs at cold = ap (λ j. get_or hs j (Some [])) (root_suc h b r at) ∙ (cold_parts h b i hs cold).0
+
+-- those of the side stay so where it is set
+pub cold_left : (h b i r : ℕ) (hs : List (Option (List ℕ))) (x : Option (List ℕ)) → 0 < h → suc r ≡ 2 * b + 2 ^ h → i < b + 2 ^ (h - 1) → IsColdOnWay h b i hs → IsColdOnWay (h - 1) b i (set hs r x)
+cold_left h b i r hs x pos =
+    lowered (λ j k. suc r ≡ 2 * b + 2 ^ j → i < b + 2 ^ k → IsColdOnWay j b i hs → IsColdOnWay k b i (set hs r x)) (λ k at. left_stays k b i r hs x at) h pos
+
+pub cold_right : (h b i r : ℕ) (hs : List (Option (List ℕ))) (x : Option (List ℕ)) → 0 < h → suc r ≡ 2 * b + 2 ^ h → b + 2 ^ (h - 1) ≤ i → IsColdOnWay h b i hs → IsColdOnWay (h - 1) (b + 2 ^ (h - 1)) i (set hs r x)
+cold_right h b i r hs x pos =
+    lowered (λ j k. suc r ≡ 2 * b + 2 ^ j → b + 2 ^ k ≤ i → IsColdOnWay j b i hs → IsColdOnWay k (b + 2 ^ k) i (set hs r x)) (λ k at. right_stays k b i r hs x at) h pos
+
+-- the hash of a leaf is kept, or that of a root and then those of a side
+module _ (h b i r : ℕ) (ws : List (List ℕ)) (hs : List (Option (List ℕ))) where
+  pub keep_one : h ≡ 0 → suc r ≡ 2 * b + 2 ^ h → set hs r (Some (get_or ws h [])) ≡ keep_on_way h b i ws hs
+  keep_one low at =
+      ap (λ k. set hs r (Some (get_or ws k []))) low
+      ∙ ap (λ j. set hs j (Some (get_or ws 0 []))) (root_leaf h b r low at)
+      ∙ sym (keep_zero b i ws hs)
+      ∙ ap (λ k. keep_on_way k b i ws hs) (sym low)
+
+  pub keep_in_left : 0 < h → suc r ≡ 2 * b + 2 ^ h → i < b + 2 ^ (h - 1) → keep_on_way (h - 1) b i (take h ws) (set hs r (Some (get_or ws h []))) ≡ keep_on_way h b i ws hs
+  keep_in_left pos =
+      lowered (λ j k. suc r ≡ 2 * b + 2 ^ j → i < b + 2 ^ k → keep_on_way k b i (take j ws) (set hs r (Some (get_or ws j []))) ≡ keep_on_way j b i ws hs)
+      (λ k at lt. ap (λ n. keep_on_way k b i (take (suc k) ws) (set hs n (Some (get_or ws (suc k) [])))) (root_suc k b r at) ∙ sym (keep_left k b i ws hs lt))
+      h pos
+
+  pub keep_in_right : 0 < h → suc r ≡ 2 * b + 2 ^ h → b + 2 ^ (h - 1) ≤ i → keep_on_way (h - 1) (b + 2 ^ (h - 1)) i (take h ws) (set hs r (Some (get_or ws h []))) ≡ keep_on_way h b i ws hs
+  keep_in_right pos =
+      lowered (λ j k. suc r ≡ 2 * b + 2 ^ j → b + 2 ^ k ≤ i → keep_on_way k (b + 2 ^ k) i (take j ws) (set hs r (Some (get_or ws j []))) ≡ keep_on_way j b i ws hs)
+      (λ k at ge. ap (λ n. keep_on_way k (b + 2 ^ k) i (take (suc k) ws) (set hs n (Some (get_or ws (suc k) [])))) (root_suc k b r at) ∙ sym (keep_right k b i ws hs ge))
+      h pos
