@@ -13,7 +13,8 @@ pub mod Sides
 pub mod StepLaws
 pub mod Numbers
 pub mod HashedLaws
-pub mod Fills
+pub mod MissingHashes
+pub mod PartHashes
 pub mod Targets
 pub mod Halves
 pub mod Numbered
