@@ -1,12 +1,13 @@
-ghost use Rattle.std.specs.Prelude.{◌≡◌, IfOk, length, vec_len};
+ghost use Rattle.std.specs.Prelude.{◌≡◌, None, IfOk, length, replicate, vec_len};
 ghost use Rattle.mls_treemath.specs.Paths.{nodes_in};
 
 use mls_leaf::{Codec, LeafError, LeafNode, Node, ParentNode};
 use mls_tree_array::{
-    HashedSubtree, Hashes, Subtree, alternates, filtered_path, first_blank, first_wrong_hash,
+    HashedSubtree, Subtree, alternates, filtered_path, first_blank, first_wrong_hash,
     first_wrong_list, has_good_lists, has_last, has_leaf, height_for, is_reached, is_reached_at,
-    leaf, member_count, pad, resolution, resolution_at, to_nodes,
+    leaf, member_count, pad, resolution, resolution_at, to_nodes, tree_hash,
 };
+use mls_tree_cells::Cells;
 use mls_tree_slot::Slot;
 use std::alloc::Global;
 use std::test::*;
@@ -58,10 +59,16 @@ fn example(alloc: Global) -> Result<Vec<Slot>, LeafError>
     example_with(alloc, &[])
 }
 
+fn example_cells(alloc: Global) -> Result<Cells, LeafError>
+    ensures { IfOk result (λ cells. length cells.nodes ≡ nodes_in 3) }
+{
+    Ok(Cells::from_slots(example(alloc)?)?)
+}
+
 #[test]
 fn resolutions_of_the_example(rt: HostRuntime) -> Result<(), Fail> {
-    let nodes = example(rt.alloc())?;
-    let tree = Subtree::of(&nodes, 3);
+    let cells = example_cells(rt.alloc())?;
+    let tree = Subtree::of(&cells, 3);
     let mut out = Vec::new(rt.alloc());
     resolution(&tree, &mut out)?;
     assert_eq!(rt; out.as_slice(), [3, 2, 9, 14].as_slice());
@@ -78,8 +85,8 @@ fn resolutions_of_the_example(rt: HostRuntime) -> Result<(), Fail> {
 
 #[test]
 fn paths_of_the_example(rt: HostRuntime) -> Result<(), Fail> {
-    let nodes = example(rt.alloc())?;
-    let tree = Subtree::of(&nodes, 3);
+    let cells = example_cells(rt.alloc())?;
+    let tree = Subtree::of(&cells, 3);
     let mut out = Vec::new(rt.alloc());
     for leaf in [0, 3, 7] {
         filtered_path(&tree, leaf, &mut out)?;
@@ -90,35 +97,34 @@ fn paths_of_the_example(rt: HostRuntime) -> Result<(), Fail> {
 
 #[test]
 fn members_of_the_example(rt: HostRuntime) -> Result<(), Fail> {
-    let nodes = example(rt.alloc())?;
-    let tree = Subtree::of(&nodes, 3);
+    let cells = example_cells(rt.alloc())?;
+    let tree = Subtree::of(&cells, 3);
     assert_eq!(rt; first_blank(&tree, 0), Some(2));
-    assert!(rt; has_leaf(&nodes, 3));
+    assert!(rt; has_leaf(&example(rt.alloc())?, 3));
     assert!(rt; is_reached(&tree));
     assert_eq!(rt; member_count(&tree), 6);
     for (i, taken) in [(0, true), (2, false), (7, true), (8, false)] {
-        assert_eq!(rt; leaf(&nodes, 3, i).is_some(), taken, "at {i}");
+        assert_eq!(rt; leaf(&cells, 3, i).is_some(), taken, "at {i}");
     }
     Ok(())
 }
 
 // The first parent of eight leaves with a wrong list, or where all are right that isn't parent-hash valid.
-fn first_wrong(alloc: Global, nodes: &[Slot]) -> Result<Option<u32>, LeafError>
-    requires { length nodes.now ≡ nodes_in 3 }
+fn first_wrong(alloc: Global, cells: Cells) -> Result<Option<u32>, LeafError>
+    requires shape { length cells.nodes ≡ nodes_in 3 }
+    requires cold { cells.hashes ≡ replicate (nodes_in 3) None }
 {
-    let tree = Subtree::of(nodes, 3);
-    if !has_good_lists(&tree) {
-        return Ok(first_wrong_list(&tree));
+    let mut cells = cells;
+    if !has_good_lists(&Subtree::of(&cells, 3)) {
+        return Ok(first_wrong_list(&Subtree::of(&cells, 3)));
     }
-    let mut hashes = Hashes::new_cold(alloc, nodes.len())?;
-    let _tree_hash = hashes.fill(nodes, 3);
-    let hashed = HashedSubtree::of(tree, hashes.as_slice());
-    Ok(first_wrong_hash(alloc, &hashed)?)
+    let mut done = 0;
+    let _tree_hash = tree_hash(&mut cells, 3, &mut done);
+    Ok(first_wrong_hash(alloc, &HashedSubtree::of(&cells, 3))?)
 }
 
 fn first_wrong_with(alloc: Global, wrong: &[usize]) -> Result<Option<u32>, LeafError> {
-    let nodes = example_with(alloc, wrong)?;
-    first_wrong(alloc, &nodes)
+    first_wrong(alloc, Cells::from_slots(example_with(alloc, wrong)?)?)
 }
 
 #[test]
@@ -143,6 +149,7 @@ fn lists_from_outside(rt: HostRuntime) -> Result<(), Fail> {
     pad(&mut nodes, 31)?;
     assert_eq!(rt; nodes.len(), 31);
     assert!(rt; !has_last(&nodes));
-    assert_eq!(rt; to_nodes(rt.alloc(), &nodes)?.len(), 15);
+    let cells = Cells::from_slots(nodes)?;
+    assert_eq!(rt; to_nodes(rt.alloc(), &cells)?.len(), 15);
     Ok(())
 }

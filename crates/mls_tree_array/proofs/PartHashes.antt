@@ -19,7 +19,7 @@ use Rattle.mls_tree_array.specs.KeptHashes.{hashes_of, Keeps, cold_places}
 use Rattle.mls_tree_array.specs.Spans.{part, splice, term_at, AreHashesAt}
 use Rattle.mls_tree_array.specs.Subtrees.{root_place}
 use Rattle.mls_tree_array.proofs.KeptLaws.{root_part, left_part, right_part, length-hashes_of, hashes_of_branch, keeps_sides, warm_leaf, warm_branch}
-use Rattle.mls_tree_array.proofs.KeptOrDropped.{none_missing, branch_counts}
+use Rattle.mls_tree_array.proofs.MissingHashes.{none_missing, branch_counts}
 use Rattle.mls_tree_array.proofs.SpanLaws.{lowered, root_leaf, root_suc, length_part, part_root, part_left, part_right, part_zero, part_behind, root_behind, before_splice, splice_one, splice_part, splice_sides, length_splice}
 
 -- ---- the tree of a part

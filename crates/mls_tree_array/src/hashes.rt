@@ -17,6 +17,7 @@ use mls_tree_hash::{Hash, branch_hash, leaf_hash};
 /// made and kept, and `done` counts them.
 fn fill_hashes(cells: &mut Cells, height: u32, first: u32, done: &mut u64) -> Hash
     requires shape { 2 * first + nodes_in height ≤ length cells.old.nodes }
+    requires long { length cells.old.hashes ≡ length cells.old.nodes }
     requires fits { first + 2 ^ height ≤ 2 ^ 31 }
     requires keeps { Keeps first (term_at height first cells.old.nodes)
         (part height first cells.old.hashes) }
