@@ -99,11 +99,10 @@ module _ (h : ℕ) (old mid : CellList) (stands : Stands h old.nodes) (long : le
 
   pub grown_hashes : length mid.hashes ≡ nodes_in (h + 1)
   grown_hashes =
-      let many : length (replicate (suc (nodes_in h)) None) ≡ suc (nodes_in h) = length-replicate (suc (nodes_in h)) None in
-      ap length hashes
-      ∙ length-append old.hashes (replicate (suc (nodes_in h)) None)
-      ∙ omega (arith, nodes_in-suc h)
-      ∙ ap nodes_in (sym (add-one h))
+      let none : Option (List ℕ) = None in
+      let many : length (replicate (suc (nodes_in h)) none) ≡ suc (nodes_in h) = length-replicate (suc (nodes_in h)) none in
+      let sum : length mid.hashes ≡ nodes_in (suc h) = ap length hashes ∙ length-append old.hashes (replicate (suc (nodes_in h)) none) ∙ omega (arith, nodes_in-suc h) in
+      sum ∙ ap nodes_in (sym (add-one h))
 
   -- its first new leaf is filled
   pub append_edits : (new : CellList) (i : ℕ) (x : LeafNode) → i ≡ 2 ^ h → PutsLeaf (h + 1) i (Some x) mid new → AppendsLeaf h x old new
