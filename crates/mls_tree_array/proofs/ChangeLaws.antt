@@ -54,7 +54,7 @@ length_on_way (suc h) b i (Branch c l r) p =
 abbrev pub IsBelow : ℕ → Change → Type 0
 IsBelow n c = c.place < n
 
-below_more : (m n : ℕ) → m ≤ n → (cs : List Change) → All (IsBelow m) cs → All (IsBelow n) cs
+pub below_more : (m n : ℕ) → m ≤ n → (cs : List Change) → All (IsBelow m) cs → All (IsBelow n) cs
 below_more m n le = All-weaker (IsBelow m) (IsBelow n) (λ c lt. omega arith)
 
 -- their places are those of nodes of the tree
