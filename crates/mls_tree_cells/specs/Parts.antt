@@ -1,0 +1,66 @@
+-- Cells in chunks, with a top behind each but the last one.
+use Rattle.std.specs.Prelude.{◌≡◌, ℕ, ◌/◌, ◌%◌, ◌<◌, ◌≤◌, Bool, true, false, List, [], ◌∷◌, ◌++◌, length, get_or, map, Option}
+use Rattle.mls_leaf.specs.declared.node.Node.{Node}
+use Rattle.mls_tree_cells.specs.Cells.{CellList}
+use Rattle.mls_tree_cells.specs.Chunks.{ChunkRow}
+
+-- the elements of chunks, with a top behind each chunk but the last one
+unfoldable pub interleave : {A : Type 0} → List (List A) → List A → List A
+interleave [] ts = []
+interleave (c ∷ cs) [] = c
+interleave (c ∷ cs) (t ∷ ts) = c ++ (t ∷ interleave cs ts)
+
+-- each chunk has 255 elements, but the last one, which has at most so many, and there is one chunk more than tops
+unfoldable pub AreSpread : {A : Type 0} → List (List A) → List A → Type 0
+AreSpread [] ts = ⊥
+AreSpread (c ∷ cs) [] = (cs ≡ []) × (length c ≤ 255)
+AreSpread (c ∷ cs) (t ∷ ts) = (length c ≡ 255) × AreSpread cs ts
+
+-- the rows of chunks
+abbrev pub rows_of : List ChunkRow → List CellList
+rows_of cs = map (λ c. c.row) cs
+
+-- whether each may be shared
+abbrev pub shares_of : List ChunkRow → List Bool
+shares_of cs = map (λ c. c.shared) cs
+
+-- the nodes of each
+abbrev pub nodes_of : List CellList → List (List (Option Node))
+nodes_of rs = map (λ r. r.nodes) rs
+
+-- the hashes kept beside them
+abbrev pub hashes_of : List CellList → List (List (Option (List ℕ)))
+hashes_of rs = map (λ r. r.hashes) rs
+
+-- the nodes of chunks and of the tops behind them
+abbrev pub all_nodes : List ChunkRow → CellList → List (Option Node)
+all_nodes cs tops = interleave (nodes_of (rows_of cs)) tops.nodes
+
+-- the hashes kept beside them
+abbrev pub all_hashes : List ChunkRow → CellList → List (Option (List ℕ))
+all_hashes cs tops = interleave (hashes_of (rows_of cs)) tops.hashes
+
+-- what holds of chunks and the tops behind them
+pub record AreParts (cs : List ChunkRow) (tops : CellList) : Type 0 where
+  pub nodes : AreSpread (nodes_of (rows_of cs)) tops.nodes
+  pub hashes : AreSpread (hashes_of (rows_of cs)) tops.hashes
+  pub long : length (all_hashes cs tops) ≡ length (all_nodes cs tops)
+
+-- all cells, and whether copies may share each chunk
+pub record PartList : Type 0 where
+  pub cells : CellList
+  pub shares : List Bool
+
+-- the chunk of a cell isn't shared, or the cell is a top
+abbrev pub IsOpen : List Bool → ℕ → Type 0
+IsOpen shares x = x % 256 < 255 → get_or shares (x / 256) true ≡ false
+
+-- what was open is open still
+abbrev pub StaysOpen : List Bool → List Bool → Type 0
+StaysOpen old new = (x : ℕ) → IsOpen old x → IsOpen new x
+
+-- so many cells end in the last chunk
+pub record EndsIn (count : ℕ) (cells : CellList) : Type 0 where
+  pub nodes : count ≤ length cells.nodes
+  pub hashes : count ≤ length cells.hashes
+  pub last : length cells.nodes / 256 ≡ count / 256
