@@ -28,13 +28,13 @@ pub(crate) struct Parts {
 }
 
 impl Model for Parts {
-    ghost use Rattle.mls_tree_cells.specs.Parts.{AreParts, PartList, all_hashes, all_nodes, shares_of};
+    ghost use Rattle.mls_tree_cells.specs.Parts.{AreParts, PartList, all_cells, rows_of, shares_of};
 
     ghost Value = { PartList };
 
-    ghost view = { λ p. record { cells = record { nodes = all_nodes p.chunks.items p.tops; hashes = all_hashes p.chunks.items p.tops }; shares = shares_of p.chunks.items } };
+    ghost view = { λ p. record { cells = all_cells (rows_of p.chunks.items) p.tops; shares = shares_of p.chunks.items } };
 
-    ghost invariant = { λ p. AreParts p.chunks.items p.tops };
+    ghost invariant = { λ p. AreParts (rows_of p.chunks.items) p.tops };
 }
 
 /// Lets later copies share each chunk whose hashes are all kept.
