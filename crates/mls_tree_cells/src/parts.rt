@@ -1,6 +1,6 @@
 //! The chunks of a list of cells and the tops between them.
 
-ghost use Rattle.std.specs.Prelude.{◌≡◌, ◌<◌, ◌≤◌, [], Some, None, length, get_or, slice_set, IfOk, OnOk, OnErr};
+ghost use Rattle.std.specs.Prelude.{◌≡◌, ℕ, ◌<◌, ◌≤◌, [], Some, None, length, get_or, slice_set, IfOk, OnOk, OnErr};
 ghost use Rattle.std.specs.List.{All};
 ghost use Rattle.mls_tree_cells.specs.Cells.{Puts};
 ghost use Rattle.mls_tree_cells.specs.Rows.{AddsBlanks, AddsCell, SetsSlot, first_cells};
@@ -172,11 +172,10 @@ impl Parts {
         Ok(())
     }
 
-    /// Adds blank cold cells at the end. Without memory for all, those before stay, and some may have been added.
+    /// Adds blank cold cells at the end. Without memory for all some may have been added.
     pub(crate) fn push_blanks(&mut self, count: usize) -> Result<(), AllocError>
         ensures ok { OnOk result (AddsBlanks count self.old.cells self.new.cells) }
-        ensures err { OnErr result (first_cells (length self.old.cells.nodes) self.new.cells ≡
-            self.old.cells) }
+        ensures err { OnErr result ((n : ℕ) × AddsBlanks n self.old.cells self.new.cells) }
     {
         for _ in 0..count {
             self.push(Slot::blank())?;
