@@ -39,7 +39,9 @@ module _ {A : Type 0} where
 module _ {A : Type 0} (d : A) where
   get_in : (bs : List (List A)) (ts : List A) (k o : ℕ) → AreSpread bs ts → k < length bs → o < length (get_or bs k []) → get_or (interleave bs ts) (256 * k + o) d ≡ get_or (get_or bs k []) o d
   get_in [] ts k o are lt low = absurd are
-  get_in (b ∷ bs) [] zero o are lt low = ap (λ n. get_or b n d) (omega arith)
+  get_in (b ∷ bs) [] zero o are lt low =
+      let at : 256 * 0 + o ≡ o = omega arith in
+      ap (λ n. get_or b n d) at
   get_in (b ∷ bs) [] (suc k) o are lt low = let none = ap length are.0 in absurd (omega arith)
   get_in (b ∷ bs) (t ∷ ts) zero o are lt low =
       let at : 256 * 0 + o ≡ o = omega arith in
