@@ -35,7 +35,7 @@ returns-clause-low c = rw (c.of.ensures, height-term_of) at c.trimmed_height-low
 
 pub leave_from-requires : goal.leave_from-requires
 leave_from-requires c =
-    let fits = size_fits c.args.height c.args.nodes.now.items c.requires.stands c.requires.low in
+    let fits = size_fits c.args.height c.args.cells.now.nodes c.requires.stands c.requires.low in
     let same = ap length c.deref-2.ensures.value in
     omega arith
 
@@ -43,7 +43,7 @@ pub returns-clause-order : goal.returns-clause-order
 returns-clause-order c =
     let low = rw (c.of.ensures, height-term_of) at c.trimmed_height-low.ensures.low in
     let tall = c.requires.low in
-    trimmed_as c.args.height c.trimmed_height-low.result _ c.args.nodes.now.items c.deref.result.now _ c.requires.stands low (cut_size c.trimmed_height-low.result (omega arith)) c.deref.ensures.value
+    trimmed_as c.args.height c.trimmed_height-low.result _ c.args.cells.now.nodes c.deref.result.now _ c.requires.stands low (cut_size c.trimmed_height-low.result (omega arith)) c.deref.ensures.value
     (trimmed_front c.args.height c.trimmed_height-low.result c.deref.result.now (subst (Stands c.args.height) (sym c.deref.ensures.value) c.requires.stands) (rw c.of.ensures at c.trimmed_height-low.ensures.value))
     c.truncate.ensures.items
 

@@ -20,7 +20,7 @@ pub returns-clause-indexed : goal.returns-clause-indexed
 returns-clause-indexed c = λ keys made is.
     let h = c.args.height in
     let i = c.args.i in
-    let xs = c.args.nodes.now.items in
+    let xs = c.args.cells.now.nodes in
     let kept = c.is_client-kept.result in
     let way = c.as_slice-places.ensures ∙ c.over-way.ensures in
     let stands = subst (λ (x : LeafNode). StandsFor h c.merge.new.nodes.items (merge_path (term_of h xs) i x keys)) c.in_ok-leaf.ensures (c.merge.ensures keys made) in

@@ -11,20 +11,20 @@ use Rattle.mls_tree.proofs.Chilling.{tree_of}
 use Rattle.mls_tree.proofs.tree.PublicTree.follow_path.Goals as goal
 
 pub put_way-requires-clause-shape : goal.put_way-requires-clause-shape
-put_way-requires-clause-shape c = kept_long c.self.inside.height c.self.inside.nodes.items _ c.self.invariant.2
+put_way-requires-clause-shape c = kept_long c.self.inside.height c.self.inside.cells.nodes _ c.self.invariant.2
 
 pub put_way-requires-clause-long : goal.put_way-requires-clause-long
 put_way-requires-clause-long c =
     let own = for_inside _ _ _ _ c.self.view_is c.path.view_is c.requires.prepared in
     let keys = path_of c.path.inside.parents.items in
-    path_long c.self.inside.height c.path.inside.index c.self.inside.nodes.items _ keys _ (c.deref.ensures.value ∙ own.hashes)
+    path_long c.self.inside.height c.path.inside.index c.self.inside.cells.nodes _ keys _ (c.deref.ensures.value ∙ own.hashes)
 
 pub returns-clause-warm : goal.returns-clause-warm
 returns-clause-warm c =
     let own = for_inside _ _ _ _ c.self.view_is c.path.view_is c.requires.prepared in
     let keys = path_of c.path.inside.parents.items in
     let warm = subst (λ (t : Tree). t.hashes ≡ hashes_of 0 (term t)) (sym c.self.view_is) c.requires.warm in
-    hashes_after c.self.inside.height c.path.inside.index c.self.inside.nodes.items _ keys _ (c.deref.ensures.value ∙ own.hashes) _ _ _ warm c.put_way.ensures.kept (c.in_ok-merge_with_indexes.ensures.merged keys own.parents)
+    hashes_after c.self.inside.height c.path.inside.index c.self.inside.cells.nodes _ keys _ (c.deref.ensures.value ∙ own.hashes) _ _ _ warm c.put_way.ensures.kept (c.in_ok-merge_with_indexes.ensures.merged keys own.parents)
 
 pub returns-clause-tree : goal.returns-clause-tree
 returns-clause-tree c =
@@ -43,9 +43,9 @@ returns-clause-cold c =
     let keys = path_of c.path.inside.parents.items in
     let warm = subst (λ (t : Tree). t.hashes ≡ hashes_of 0 (term t)) (sym c.self.view_is) c.requires.warm in
     let member = ap (λ t. is_some (leaf_of (term t) c.path.inside.index)) (sym c.self.view_is) ∙ merge_member _ _ _ _ _ own.answer in
-    let long = path_long c.self.inside.height c.path.inside.index c.self.inside.nodes.items _ keys _ (c.deref.ensures.value ∙ own.hashes) in
+    let long = path_long c.self.inside.height c.path.inside.index c.self.inside.cells.nodes _ keys _ (c.deref.ensures.value ∙ own.hashes) in
     let h = c.self.inside.height in
-    subst (λ (p : Prepared). IsWarmedEdit p.index c.args.self.now (tree_of h c.merge_with_indexes.new.nodes.items c.put_way.new.self.kept c.put_way.new.self.done)) c.path.view_is (followed_in h c.path.inside.index c.self.inside.nodes.items _ _ _ c.self.view_is c.self.invariant.2 member _ _ _ warm (returns-clause-warm c) (c.put_way.ensures.counted ∙ ap (Rattle.mls_tree_hash.specs.Counter.counted _) long))
+    subst (λ (p : Prepared). IsWarmedEdit p.index c.args.self.now (tree_of h c.merge_with_indexes.new.nodes.items c.put_way.new.self.kept c.put_way.new.self.done)) c.path.view_is (followed_in h c.path.inside.index c.self.inside.cells.nodes _ _ _ c.self.view_is c.self.invariant.2 member _ _ _ warm (returns-clause-warm c) (c.put_way.ensures.counted ∙ ap (Rattle.mls_tree_hash.specs.Counter.counted _) long))
 
 pub invariant_of-self-2 : goal.invariant_of-self-2
 invariant_of-self-2 c =

@@ -22,7 +22,7 @@ returns-in-Err-clause-answer c =
     (c.tree_hash-tree_hash.ensures.same, λ other. rw c.tree_hash-tree_hash.ensures.same at (merge_refused _ _ _ _ _ (c.in-Err.ensures.checks other)))
 
 pub drop_way-requires-clause-shape : goal.drop_way-requires-clause-shape
-drop_way-requires-clause-shape c = kept_long c.self.inside.height c.self.inside.nodes.items _ c.self.invariant.2
+drop_way-requires-clause-shape c = kept_long c.self.inside.height c.self.inside.cells.nodes _ c.self.invariant.2
 
 pub returns-clause-answer : goal.returns-clause-answer
 returns-clause-answer c =
@@ -45,13 +45,13 @@ returns-clause-cold c = (
   warmed c.args.self.now c.tree_hash-tree_hash.new.self c.tree_hash-tree_hash.ensures.all c.tree_hash-tree_hash.ensures.counted,
   c.tree_hash-tree_hash.ensures.same,
   subst (λ t. Chills t c.args.i c.tree_hash-tree_hash.new.self (tree_of c.self.inside.height c.merge_with_indexes.new.nodes.items c.drop_way.new.self.kept c.drop_way.new.self.done)) c.tree_hash-tree_hash.ensures.same
-      (edited_in c.self.inside.height c.args.i c.self.inside.nodes.items _ _ _ c.self.view_is c.self.invariant.2 (subst (λ t. is_some (leaf_of t c.args.i) ≡ true) (sym c.tree_hash-tree_hash.ensures.same) (merge_member _ _ _ _ _ (returns-clause-answer c))) c.merge_with_indexes.new.nodes.items c.drop_way.new.self.kept c.drop_way.new.self.done (c.drop_way.ensures.kept _ (perfect-term_of _ _)) c.drop_way.ensures.done),
+      (edited_in c.self.inside.height c.args.i c.self.inside.cells.nodes _ _ _ c.self.view_is c.self.invariant.2 (subst (λ t. is_some (leaf_of t c.args.i) ≡ true) (sym c.tree_hash-tree_hash.ensures.same) (merge_member _ _ _ _ _ (returns-clause-answer c))) c.merge_with_indexes.new.nodes.items c.drop_way.new.self.kept c.drop_way.new.self.done (c.drop_way.ensures.kept _ (perfect-term_of _ _)) c.drop_way.ensures.done),
 )
 
 pub returns-in_err-merge_with_indexes-clause-warms : goal.returns-in_err-merge_with_indexes-clause-warms
 returns-in_err-merge_with_indexes-clause-warms c =
     let before = subst (Warms c.args.self.now) (sym c.self.view_is) (warmed c.args.self.now c.tree_hash-tree_hash.new.self c.tree_hash-tree_hash.ensures.all c.tree_hash-tree_hash.ensures.counted) in
-    on_err _ _ (subst (λ xs. Warms c.args.self.now (tree_of c.self.inside.height xs c.self.inside.hashes.kept c.self.inside.hashes.done)) (sym c.in_err-merge_with_indexes.ensures.unchanged) before)
+    on_err _ _ (subst (λ xs. Warms c.args.self.now (tree_of c.self.inside.height xs c.self.inside.cells.hashes c.self.inside.done)) (sym c.in_err-merge_with_indexes.ensures.unchanged) before)
 
 pub invariant_of-self-2 : goal.invariant_of-self-2
 invariant_of-self-2 c =

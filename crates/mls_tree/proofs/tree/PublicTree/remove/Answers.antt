@@ -31,7 +31,7 @@ pub returns-clause-sound : goal.returns-clause-sound
 returns-clause-sound c = remove_sound _ _ c.args.i (returns-clause-answer c)
 
 pub drop_way-requires-clause-shape : goal.drop_way-requires-clause-shape
-drop_way-requires-clause-shape c = kept_long c.self.inside.height c.self.inside.nodes.items _ c.self.invariant.2
+drop_way-requires-clause-shape c = kept_long c.self.inside.height c.self.inside.cells.nodes _ c.self.invariant.2
 
 pub end_of_members-end-requires : goal.end_of_members-end-requires
 end_of_members-end-requires c = rw c.of.ensures (removal_end _ _ _ _ _ (ap term c.self.view_is) c.self.invariant.3 _ _ _ _ c.deref-2.ensures.value c.put.ensures c.in-Ok.ensures)
@@ -41,13 +41,13 @@ invariant_of-self c =
     let low = c.self.invariant.1 in
     let small = c.trim-self-inside.ensures.low in
     let kept = kept-put _ _ _ c.self.invariant.2 _ _ _ _ _ (c.drop_way.ensures.kept _ (perfect-term_of _ _)) c.put.ensures in
-    let left = left_by (way_numbers c.self.inside.height c.args.i) _ c.self.inside.nodes.items _ _ _ (c.as_slice.ensures ∙ c.over-way.ensures) c.deref.ensures.value c.leave_all.ensures.left c.self.invariant.4 in
-    let blanked = indexed-remove c.self.inside.height c.args.i c.self.inside.nodes.items _ _ c.self.invariant.0 c.put.ensures left in
+    let left = left_by (way_numbers c.self.inside.height c.args.i) _ c.self.inside.cells.nodes _ _ _ (c.as_slice.ensures ∙ c.over-way.ensures) c.deref.ensures.value c.leave_all.ensures.left c.self.invariant.4 in
+    let blanked = indexed-remove c.self.inside.height c.args.i c.self.inside.cells.nodes _ _ c.self.invariant.0 c.put.ensures left in
     (c.trim-self-inside.ensures.order.stands, omega arith, kept-trimmed _ _ _ _ _ _ _ kept c.trim-self-inside.ensures.order (c.len.ensures ∙ c.trim-self-inside.new.nodes.ok.0) (ap (λ h. h.kept) c.cut.ensures), removed _ _ _ _ _ (ap term c.self.view_is) c.self.invariant.3 _ _ _ _ _ _ _ _ c.deref-2.ensures.value c.put.ensures c.trim-self-inside.ensures.order c.in-Ok.ensures (omega arith) (omega arith) (rw c.of.ensures at c.end_of_members-end.ensures), c.trim-self-inside.ensures.indexes blanked)
 
 pub returns-clause-cold : goal.returns-clause-cold
 returns-clause-cold c =
-    trimmed_in c.self.inside.height c.args.i c.self.inside.nodes.items _ _ _ c.self.view_is c.self.invariant.2 c.in-Ok.ensures _ _ _ _ _ _ (c.drop_way.ensures.kept _ (perfect-term_of _ _)) (ap (λ h. h.kept) c.cut.ensures) (c.len.ensures ∙ c.trim-self-inside.new.nodes.ok.0 ∙ c.trim-self-inside.ensures.order.stands.size) c.trim-self-inside.ensures.low (ap (λ h. h.done) c.cut.ensures ∙ c.drop_way.ensures.done)
+    trimmed_in c.self.inside.height c.args.i c.self.inside.cells.nodes _ _ _ c.self.view_is c.self.invariant.2 c.in-Ok.ensures _ _ _ _ _ _ (c.drop_way.ensures.kept _ (perfect-term_of _ _)) (ap (λ h. h.kept) c.cut.ensures) (c.len.ensures ∙ c.trim-self-inside.new.nodes.ok.0 ∙ c.trim-self-inside.ensures.order.stands.size) c.trim-self-inside.ensures.low (ap (λ h. h.done) c.cut.ensures ∙ c.drop_way.ensures.done)
 
 pub leave_all-requires : goal.leave_all-requires
 leave_all-requires c = way_once c.self.inside.height c.args.i _ (c.as_slice.ensures ∙ c.over-way.ensures)

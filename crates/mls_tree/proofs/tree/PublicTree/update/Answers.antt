@@ -38,23 +38,23 @@ pub returns-in_err-leaf-clause-outright : goal.returns-in_err-leaf-clause-outrig
 returns-in_err-leaf-clause-outright c = λ n h. absurd (not_refused _ _ (update_done _ _ c.args.leaf c.in-Ok.ensures) n h)
 
 pub drop_way-requires-clause-shape : goal.drop_way-requires-clause-shape
-drop_way-requires-clause-shape c = kept_long c.self.inside.height c.self.inside.nodes.items _ c.self.invariant.2
+drop_way-requires-clause-shape c = kept_long c.self.inside.height c.self.inside.cells.nodes _ c.self.invariant.2
 
 pub invariant_of-self : goal.invariant_of-self
-invariant_of-self c = (c.self.invariant.0, c.self.invariant.1, c.self.invariant.2, c.self.invariant.3, same_indexes c.self.inside.nodes.items _ _ c.in_err-reserve.ensures.same c.self.invariant.4)
+invariant_of-self c = (c.self.invariant.0, c.self.invariant.1, c.self.invariant.2, c.self.invariant.3, same_indexes c.self.inside.cells.nodes _ _ c.in_err-reserve.ensures.same c.self.invariant.4)
 
 pub invariant_of-self-2 : goal.invariant_of-self-2
 invariant_of-self-2 c =
     let way = c.as_slice-places.ensures ∙ c.over-way.ensures in
-    let reserved = same_indexes c.self.inside.nodes.items _ _ c.in_ok-reserve.ensures.same c.self.invariant.4 in
-    let left = left_by (way_numbers c.self.inside.height c.args.i) _ c.self.inside.nodes.items _ _ _ way c.deref.ensures.value c.leave_all.ensures.left reserved in
-    let beside = indexed-put c.self.inside.height c.args.i c.self.inside.nodes.items _ _ c.self.invariant.0 _ c.put.ensures left in
+    let reserved = same_indexes c.self.inside.cells.nodes _ _ c.in_ok-reserve.ensures.same c.self.invariant.4 in
+    let left = left_by (way_numbers c.self.inside.height c.args.i) _ c.self.inside.cells.nodes _ _ _ way c.deref.ensures.value c.leave_all.ensures.left reserved in
+    let beside = indexed-put c.self.inside.height c.args.i c.self.inside.cells.nodes _ _ c.self.invariant.0 _ c.put.ensures left in
     let entered = entered_by (way_numbers c.self.inside.height c.args.i) _ c.put.new.nodes.items _ _ _ way c.deref-2.ensures.value c.enter_all.ensures beside in
     (c.put.ensures.stands, c.self.invariant.1, kept-put _ _ _ c.self.invariant.2 _ _ _ _ _ (c.drop_way.ensures.kept _ (perfect-term_of _ _)) c.put.ensures, updated _ _ _ _ _ (ap term c.self.view_is) c.self.invariant.3 _ _ _ _ c.put.ensures c.in-Ok.ensures, entered)
 
 pub returns-clause-cold : goal.returns-clause-cold
 returns-clause-cold c =
-    edited_in c.self.inside.height c.args.i c.self.inside.nodes.items _ _ _ c.self.view_is c.self.invariant.2 c.in-Ok.ensures _ _ _ (c.drop_way.ensures.kept _ (perfect-term_of _ _)) c.drop_way.ensures.done
+    edited_in c.self.inside.height c.args.i c.self.inside.cells.nodes _ _ _ c.self.view_is c.self.invariant.2 c.in-Ok.ensures _ _ _ (c.drop_way.ensures.kept _ (perfect-term_of _ _)) c.drop_way.ensures.done
 
 pub leave_all-requires : goal.leave_all-requires
 leave_all-requires c = way_once c.self.inside.height c.args.i _ (c.as_slice-places.ensures ∙ c.over-way.ensures)
