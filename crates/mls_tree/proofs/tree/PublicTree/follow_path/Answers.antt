@@ -10,11 +10,23 @@ use Rattle.mls_tree.specs.PreparedPath.{Prepared}
 use Rattle.mls_tree.proofs.Chilling.{tree_of}
 use Rattle.mls_tree.proofs.tree.PublicTree.follow_path.Goals as goal
 
-pub put_way-requires-clause-shape : goal.put_way-requires-clause-shape
-put_way-requires-clause-shape c = kept_long c.self.inside.height c.self.inside.cells.nodes _ c.self.invariant.2
+pub merge_with_indexes-requires-clause-long : goal.merge_with_indexes-requires-clause-long
+merge_with_indexes-requires-clause-long c = kept_long c.self.inside.height c.self.inside.cells.nodes _ c.self.invariant.2
 
-pub put_way-requires-clause-long : goal.put_way-requires-clause-long
-put_way-requires-clause-long c =
+pub put_hashes-requires-clause-shape : goal.put_hashes-requires-clause-shape
+put_hashes-requires-clause-shape c =
+    let own = for_inside _ _ _ _ c.self.view_is c.path.view_is c.requires.prepared in
+    (c.in_ok-merge_with_indexes.ensures.merged (path_of c.path.inside.parents.items) own.parents).nodes.stands.size
+
+pub put_hashes-requires-clause-cold : goal.put_hashes-requires-clause-cold
+put_hashes-requires-clause-cold c =
+    let own = for_inside _ _ _ _ c.self.view_is c.path.view_is c.requires.prepared in
+    let h = c.self.inside.height in
+    let edited = c.in_ok-merge_with_indexes.ensures.merged (path_of c.path.inside.parents.items) own.parents in
+    cold_after h c.path.inside.index (term_of h c.self.inside.cells.nodes) _ c.self.inside.cells c.merge_with_indexes.new.cells (perfect-term_of h c.self.inside.cells.nodes) edited.hashes (keeps_long 0 _ _ c.self.invariant.2)
+
+pub put_hashes-requires-clause-long : goal.put_hashes-requires-clause-long
+put_hashes-requires-clause-long c =
     let own = for_inside _ _ _ _ c.self.view_is c.path.view_is c.requires.prepared in
     let keys = path_of c.path.inside.parents.items in
     path_long c.self.inside.height c.path.inside.index c.self.inside.cells.nodes _ keys _ (c.deref.ensures.value ∙ own.hashes)
@@ -24,7 +36,7 @@ returns-clause-warm c =
     let own = for_inside _ _ _ _ c.self.view_is c.path.view_is c.requires.prepared in
     let keys = path_of c.path.inside.parents.items in
     let warm = subst (λ (t : Tree). t.hashes ≡ hashes_of 0 (term t)) (sym c.self.view_is) c.requires.warm in
-    hashes_after c.self.inside.height c.path.inside.index c.self.inside.cells.nodes _ keys _ (c.deref.ensures.value ∙ own.hashes) _ _ _ warm c.put_way.ensures.kept (c.in_ok-merge_with_indexes.ensures.merged keys own.parents)
+    hashes_after c.self.inside.height c.path.inside.index c.self.inside.cells.nodes _ keys _ (c.deref.ensures.value ∙ own.hashes) c.self.inside.cells c.merge_with_indexes.new.cells c.put_hashes.new.cells warm (c.in_ok-merge_with_indexes.ensures.merged keys own.parents) c.put_hashes.ensures.kept
 
 pub returns-clause-tree : goal.returns-clause-tree
 returns-clause-tree c =
