@@ -1,5 +1,6 @@
 -- What the changes of an edit make of the cells of a whole tree.
-use Rattle.std.proofs.Common.{◌≡◌, ℕ, suc, ◌+◌, ◌*◌, ◌^◌, ◌<◌, ◌++◌, true, List, [], length, take, reverse, replicate, All, Option, Some, None, sym, ◌∙◌, ap, subst, arith, add-one, length-append}
+use Rattle.std.proofs.Common.{◌≡◌, ℕ, suc, ◌+◌, ◌*◌, ◌^◌, ◌<◌, ◌++◌, Bool, true, List, [], length, take, reverse, replicate, All, Option, Some, None, sym, ◌∙◌, ap, subst, arith, add-one, length-append}
+use Rattle.std.specs.Prelude.{Result, Ok, Err, OnOk, OnErr}
 use Rattle.std.proofs.lemmas.List.{take_at, length-replicate}
 use Rattle.mls_leaf.specs.Parent.{Parent}
 use Rattle.mls_leaf.specs.declared.leaf.LeafNode.{LeafNode}
@@ -9,12 +10,12 @@ use Rattle.mls_treemath.proofs.Sizes.{nodes_in-suc}
 use Rattle.mls_tree_cells.specs.declared.changes.Change.{Change}
 use Rattle.mls_tree_cells.specs.Cells.{CellList, Puts}
 use Rattle.mls_tree_cells.specs.Rows.{first_cells}
-use Rattle.mls_tree_model.specs.Term.{Term, size, is_perfect}
+use Rattle.mls_tree_model.specs.Term.{Term, size, is_perfect, leaf_of}
 use Rattle.mls_tree_model.specs.Edits.{put, enter, grow}
 use Rattle.mls_tree_model.specs.Merge.{merge, merge_path}
 use Rattle.mls_tree_model.specs.Arrays.{term_of, in_order}
 use Rattle.mls_tree_model.proofs.ArrayLaws.{perfect-term_of, size-term_of}
-use Rattle.mls_tree_array.specs.Changes.{cells_on_way, MakesMerge}
+use Rattle.mls_tree_array.specs.Changes.{cells_on_way, AreBelow}
 use Rattle.mls_tree_array.specs.KeptHashes.{hashes_of, drop_hashes}
 use Rattle.mls_tree_array.specs.Merging.{path_parents}
 use Rattle.mls_tree_array.specs.Standing.{Stands}
@@ -25,6 +26,11 @@ use Rattle.mls_tree_array.proofs.StandingLaws.{in_order-grow, stands_for-grow}
 use Rattle.mls_tree_array.proofs.WayLaws.{cold_whole, kept_whole}
 use Rattle.mls_tree_array.proofs.WholeChanges.{places_fit, stands_after, hashes_after}
 use Rattle.mls_tree.specs.ArrayEdits.{EditsLeaf, PutsLeaf, EntersLeaf, AppendsLeaf}
+use Rattle.mls_tree.specs.IndexedKeys.{AreIndexes, AreBeside, IsClient}
+use Rattle.mls_tree.specs.Way.{way_numbers}
+use Rattle.mls_tree.specs.declared.key_indexes.KeyIndexes.{KeyIndexes}
+use Rattle.mls_tree_index.specs.BlankedCells.{cells_without}
+use Rattle.mls_tree.proofs.Indexing.{indexed-put, indexed-merge}
 use Rattle.mls_tree.proofs.Growth.{appended}
 use Rattle.mls_tree.proofs.Pathing.{merge_is}
 
@@ -56,9 +62,8 @@ module _ (h i : ℕ) (old : CellList) (cs : List Change) (stands : Stands h old.
         subst (λ u. EditsLeaf h i (term_of h old.nodes) u old new) (merge_is (term_of h old.nodes) i x keys)
         (edited _ (differ_merge 0 (term_of h old.nodes) i (reverse keys) [] x) are)
 
-  -- whatever keys the parents are made of, their changes have places among the cells: so has each list of as many
-  pub merge_fits : (x : LeafNode) (ks : List (List ℕ)) (above : List ℕ) → cs ≡ cells_on_way 0 (merge 0 (term_of h old.nodes) i ks above x) i → All (λ (c : Change). c.place < length old.nodes) cs
-  merge_fits x ks above are = places_fit h i _ old cs stands (differ_merge 0 (term_of h old.nodes) i ks above x) are
+  pub merge_fits : AreBelow (2 * 0 + size (term_of h old.nodes)) cs → AreBelow (length old.nodes) cs
+  merge_fits within = subst (λ n. AreBelow n cs) (let many = size-term_of h old.nodes in let all = stands.size in omega arith) within
 
 -- ---- growth
 
@@ -110,3 +115,19 @@ module _ (h i : ℕ) (t u : Term) (old mid : CellList) (perfect : is_perfect h t
       ∙ ap (keep_on_way h 0 i ws) (dropped ∙ ap (drop_hashes 0 t i) all)
       ∙ ap (λ vs. keep_on_way h 0 i vs (drop_hashes 0 t i (hashes_of 0 t))) are
       ∙ kept_whole h i t u perfect differ
+
+-- ---- answers that are handed on
+
+pub on_ok : {A E : Type 0} (r : Result A E) (P Q : Type 0) → (P → Q) → OnOk r P → OnOk r Q
+on_ok (Ok v) P Q f p = f p
+on_ok (Err e) P Q f p = p
+
+-- beside the way the nodes are the same, whether the edit was made or not
+module _ {A E : Type 0} (h i : ℕ) (old new : CellList) (s : KeyIndexes) (stands : Stands h old.nodes) where
+  pub beside_put : (r : Result A E) (x : Option LeafNode) → OnOk r (PutsLeaf h i x old new) → OnErr r (new ≡ old) → AreIndexes (cells_without 0 (way_numbers h i) old.nodes) s → AreIndexes (cells_without 0 (way_numbers h i) new.nodes) s
+  beside_put (Ok v) x ok err is = indexed-put h i old.nodes new.nodes s stands x ok.nodes is
+  beside_put (Err e) x ok err is = subst (λ (c : CellList). AreIndexes (cells_without 0 (way_numbers h i) c.nodes) s) (sym err) is
+
+  pub beside_merge : (r : Result A E) (x : LeafNode) (keys : List (List ℕ)) (kept : Bool) → (kept ≡ true → IsClient x.signature_key (leaf_of (term_of h old.nodes) i)) → OnOk r (EditsLeaf h i (term_of h old.nodes) (merge_path (term_of h old.nodes) i x keys) old new) → OnErr r (new ≡ old) → AreBeside kept (way_numbers h i) old.nodes s → AreBeside kept (way_numbers h i) new.nodes s
+  beside_merge (Ok v) x keys kept own ok err is = indexed-merge h i old.nodes new.nodes s stands x keys kept own ok.nodes is
+  beside_merge (Err e) x keys kept own ok err is = subst (λ (c : CellList). AreBeside kept (way_numbers h i) c.nodes s) (sym err) is
