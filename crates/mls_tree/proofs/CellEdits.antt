@@ -1,147 +1,133 @@
--- The cells of a whole tree after an edit at a leaf, as changes on the way to it.
-use Rattle.std.proofs.Common.{◌≡◌, ℕ, suc, ◌+◌, ◌*◌, ◌^◌, ◌<◌, true, List, [], ◌++◌, length, take, reverse, replicate, All, Option, Some, None, Result, Ok, Err, OnOk, sym, ◌∙◌, ap, subst, arith, length-append, add-one}
-use Rattle.std.specs.Global.{Vec}
+-- What the changes of an edit make of the cells of a whole tree.
+use Rattle.std.proofs.Common.{◌≡◌, ℕ, suc, ◌+◌, ◌*◌, ◌^◌, ◌<◌, ◌++◌, Bool, true, List, [], length, take, reverse, replicate, All, Option, Some, None, sym, ◌∙◌, ap, subst, arith, add-one, length-append}
+use Rattle.std.specs.Prelude.{Result, Ok, Err, OnOk, OnErr}
 use Rattle.std.proofs.lemmas.List.{take_at, length-replicate}
-use Rattle.std.proofs.lemmas.List.Elements.{All-same}
 use Rattle.mls_leaf.specs.Parent.{Parent}
 use Rattle.mls_leaf.specs.declared.leaf.LeafNode.{LeafNode}
 use Rattle.mls_leaf.specs.declared.node.Node.{Node}
 use Rattle.mls_treemath.specs.Paths.{nodes_in}
 use Rattle.mls_treemath.proofs.Sizes.{nodes_in-suc}
 use Rattle.mls_tree_cells.specs.declared.changes.Change.{Change}
-use Rattle.mls_tree_cells.specs.Cells.{CellList, Puts, put_nodes, drop_hashes_at}
+use Rattle.mls_tree_cells.specs.Cells.{CellList, Puts}
 use Rattle.mls_tree_cells.specs.Rows.{first_cells}
-use Rattle.mls_tree_model.specs.Term.{Term, size, is_perfect}
+use Rattle.mls_tree_model.specs.Term.{Term, size, is_perfect, leaf_of}
 use Rattle.mls_tree_model.specs.Edits.{put, enter, grow}
 use Rattle.mls_tree_model.specs.Merge.{merge, merge_path}
 use Rattle.mls_tree_model.specs.Arrays.{term_of, in_order}
-use Rattle.mls_tree_model.proofs.ArrayLaws.{perfect-term_of, size-perfect, size-term_of}
-use Rattle.mls_tree_array.specs.Changes.{cells_on_way}
+use Rattle.mls_tree_model.proofs.ArrayLaws.{perfect-term_of, size-term_of}
+use Rattle.mls_tree_array.specs.Changes.{cells_on_way, AreBelow}
 use Rattle.mls_tree_array.specs.KeptHashes.{hashes_of, drop_hashes}
 use Rattle.mls_tree_array.specs.Merging.{path_parents}
 use Rattle.mls_tree_array.specs.Standing.{Stands}
 use Rattle.mls_tree_array.specs.StandingLaws.{StandsFor}
-use Rattle.mls_tree_array.specs.WayHashes.{way_hashes, IsColdOnWay, keep_on_way, KeepsOnWay}
-use Rattle.mls_tree_array.proofs.StandingLaws.{stands_for, stands_for-grow, in_order-grow}
-use Rattle.mls_tree_array.proofs.ChangeLaws.{DifferOnWay, IsBelow, below_more, differ_put, differ_enter, differ_merge, perfect_differ, places_on_way, nodes_whole, hashes_whole}
+use Rattle.mls_tree_array.specs.WayHashes.{way_hashes, IsColdOnWay, KeepsOnWay, keep_on_way}
+use Rattle.mls_tree_array.proofs.ChangeLaws.{DifferOnWay, differ_put, differ_enter, differ_merge}
+use Rattle.mls_tree_array.proofs.StandingLaws.{in_order-grow, stands_for-grow}
 use Rattle.mls_tree_array.proofs.WayLaws.{cold_whole, kept_whole}
+use Rattle.mls_tree_array.proofs.WholeChanges.{places_fit, stands_after, hashes_after}
 use Rattle.mls_tree.specs.ArrayEdits.{EditsLeaf, PutsLeaf, EntersLeaf, AppendsLeaf}
-use Rattle.mls_tree.specs.PathMerging.{MergesParents}
+use Rattle.mls_tree.specs.IndexedKeys.{AreIndexes, AreBeside, IsClient}
+use Rattle.mls_tree.specs.Way.{way_numbers}
+use Rattle.mls_tree.specs.declared.key_indexes.KeyIndexes.{KeyIndexes}
+use Rattle.mls_tree_index.specs.BlankedCells.{cells_without}
+use Rattle.mls_tree.proofs.Indexing.{indexed-put, indexed-merge}
 use Rattle.mls_tree.proofs.Growth.{appended}
 use Rattle.mls_tree.proofs.Pathing.{merge_is}
 
--- ---- changes on the way to a leaf
-
--- each has a place among the cells, where the tree u has the same height
-pub places_fit : (h i : ℕ) (u : Term) (xs : List (Option Node)) (cs : List Change) → length xs ≡ nodes_in h → is_perfect h u ≡ true → cs ≡ cells_on_way 0 u i → All (λ (c : Change). c.place < length xs) cs
-places_fit h i u xs cs long p are =
-    let count : size u ≡ nodes_in h = size-perfect h u p in
-    All-same (IsBelow (length xs)) cs (cells_on_way 0 u i) are
-    (below_more (2 * 0 + size u) (length xs) (omega arith) (cells_on_way 0 u i) (places_on_way 0 i u))
-
--- a fact that follows where the call succeeded
-pub on_ok : {A E P Q : Type 0} (r : Result A E) → (P → Q) → OnOk r P → OnOk r Q
-on_ok (Ok v) f p = f p
-on_ok (Err e) f p = tt
+-- ---- one edit
 
 module _ (h i : ℕ) (old : CellList) (cs : List Change) (stands : Stands h old.nodes) where
-  abbrev tree : Term
-  tree = term_of h old.nodes
+  pub put_fits : (x : Option LeafNode) → cs ≡ cells_on_way 0 (put 0 (term_of h old.nodes) i x) i → All (λ (c : Change). c.place < length old.nodes) cs
+  put_fits x are = places_fit h i _ old cs stands (differ_put 0 (term_of h old.nodes) i x) are
 
-  tree_perfect : is_perfect h tree ≡ true
-  tree_perfect = perfect-term_of h old.nodes
+  pub enter_fits : (x : LeafNode) → cs ≡ cells_on_way 0 (enter 0 (term_of h old.nodes) i x) i → All (λ (c : Change). c.place < length old.nodes) cs
+  enter_fits x are = places_fit h i _ old cs stands (differ_enter 0 (term_of h old.nodes) i x) are
 
-  differ_fit : (u : Term) → DifferOnWay 0 i tree u → cs ≡ cells_on_way 0 u i → All (λ (c : Change). c.place < length old.nodes) cs
-  differ_fit u differ are = places_fit h i u old.nodes cs stands.size (perfect_differ h 0 i tree u tree_perfect differ) are
-
-  pub put_fits : (x : Option LeafNode) → cs ≡ cells_on_way 0 (put 0 tree i x) i → All (λ (c : Change). c.place < length old.nodes) cs
-  put_fits x = differ_fit (put 0 tree i x) (differ_put 0 tree i x)
-
-  pub enter_fits : (x : LeafNode) → cs ≡ cells_on_way 0 (enter 0 tree i x) i → All (λ (c : Change). c.place < length old.nodes) cs
-  enter_fits x = differ_fit (enter 0 tree i x) (differ_enter 0 tree i x)
-
-  module _ (new : CellList) (long : length old.hashes ≡ nodes_in h) where
-    pub edited : (u : Term) → DifferOnWay 0 i tree u → cs ≡ cells_on_way 0 u i → Puts cs old new → EditsLeaf h i tree u old new
-    edited u differ are puts =
+  module _ (new : CellList) (puts : Puts cs old new) (long : length old.hashes ≡ nodes_in h) where
+    edited : (u : Term) → DifferOnWay 0 i (term_of h old.nodes) u → cs ≡ cells_on_way 0 u i → EditsLeaf h i (term_of h old.nodes) u old new
+    edited u differ are =
         record {
-          nodes =
-              stands_for h u new.nodes (perfect_differ h 0 i tree u tree_perfect differ)
-              (puts.nodes
-              ∙ ap (λ ds. put_nodes ds old.nodes) are
-              ∙ ap (put_nodes (cells_on_way 0 u i)) (sym stands.order)
-              ∙ nodes_whole i tree u differ);
-          hashes =
-              puts.hashes
-              ∙ ap (λ ds. drop_hashes_at ds old.hashes) are
-              ∙ hashes_whole i tree u old.hashes differ (long ∙ sym (size-term_of h old.nodes));
+          nodes = stands_after h i u old cs stands differ are new puts;
+          hashes = hashes_after h i u old cs stands differ are new puts long;
         }
 
-    module _ {A E : Type 0} (r : Result A E) (puts : OnOk r (Puts cs old new)) where
-      pub put_edits : (x : Option LeafNode) → cs ≡ cells_on_way 0 (put 0 tree i x) i → OnOk r (PutsLeaf h i x old new)
-      put_edits x are = on_ok r (edited (put 0 tree i x) (differ_put 0 tree i x) are) puts
+    pub leaf_put : (x : Option LeafNode) → cs ≡ cells_on_way 0 (put 0 (term_of h old.nodes) i x) i → PutsLeaf h i x old new
+    leaf_put x are = edited _ (differ_put 0 (term_of h old.nodes) i x) are
 
-      pub enter_edits : (x : LeafNode) → cs ≡ cells_on_way 0 (enter 0 tree i x) i → OnOk r (EntersLeaf h i x old new)
-      enter_edits x are = on_ok r (edited (enter 0 tree i x) (differ_enter 0 tree i x) are) puts
+    pub leaf_entered : (x : LeafNode) → cs ≡ cells_on_way 0 (enter 0 (term_of h old.nodes) i x) i → EntersLeaf h i x old new
+    leaf_entered x are = edited _ (differ_enter 0 (term_of h old.nodes) i x) are
 
-      pub merge_edits : (x : LeafNode) (parents : Vec Parent) → ((ks : List (List ℕ)) (above : List ℕ) → parents.items ≡ path_parents 0 tree i ks above → cs ≡ cells_on_way 0 (merge 0 tree i ks above x) i) → OnOk r (MergesParents h i x parents old new)
-      merge_edits x parents are =
-          on_ok r
-          (λ (p : Puts cs old new). λ keys made.
-              subst (λ u. EditsLeaf h i tree u old new) (merge_is tree i x keys)
-              (edited (merge 0 tree i (reverse keys) [] x) (differ_merge 0 tree i (reverse keys) [] x) (are (reverse keys) [] made) p))
-          puts
+    pub path_merged : (x : LeafNode) (keys : List (List ℕ)) → cs ≡ cells_on_way 0 (merge 0 (term_of h old.nodes) i (reverse keys) [] x) i → EditsLeaf h i (term_of h old.nodes) (merge_path (term_of h old.nodes) i x keys) old new
+    path_merged x keys are =
+        subst (λ u. EditsLeaf h i (term_of h old.nodes) u old new) (merge_is (term_of h old.nodes) i x keys)
+        (edited _ (differ_merge 0 (term_of h old.nodes) i (reverse keys) [] x) are)
 
--- ---- a doubled tree
+  pub merge_fits : AreBelow (2 * 0 + size (term_of h old.nodes)) cs → AreBelow (length old.nodes) cs
+  merge_fits within = subst (λ n. AreBelow n cs) (let many = size-term_of h old.nodes in let all = stands.size in omega arith) within
 
-module _ (h : ℕ) (old mid : CellList) (stands : Stands h old.nodes) (long : length old.hashes ≡ nodes_in h) (nodes : mid.nodes ≡ in_order (grow (term_of h old.nodes))) (hashes : mid.hashes ≡ old.hashes ++ replicate (suc (nodes_in h)) None) where
+-- ---- growth
+
+module _ (h : ℕ) (old mid : CellList) (stands : Stands h old.nodes) (grown : mid.nodes ≡ in_order (grow (term_of h old.nodes))) (cold : mid.hashes ≡ old.hashes ++ replicate (suc (nodes_in h)) None) (long : length old.hashes ≡ nodes_in h) where
+  grown_for : StandsFor (h + 1) mid.nodes (grow (term_of h old.nodes))
+  grown_for = stands_for-grow h old.nodes mid.nodes grown
+
   pub grown_stands : Stands (h + 1) mid.nodes
-  grown_stands = (stands_for-grow h old.nodes mid.nodes nodes).stands
+  grown_stands = grown_for.stands
 
   pub grown_hashes : length mid.hashes ≡ nodes_in (h + 1)
   grown_hashes =
-      let none : Option (List ℕ) = None in
-      let many : length (replicate (suc (nodes_in h)) none) ≡ suc (nodes_in h) = length-replicate (suc (nodes_in h)) none in
-      let sum : length mid.hashes ≡ nodes_in (suc h) = ap length hashes ∙ length-append old.hashes (replicate (suc (nodes_in h)) none) ∙ omega (arith, nodes_in-suc h) in
-      sum ∙ ap nodes_in (sym (add-one h))
+      ap length cold
+      ∙ length-append old.hashes (replicate (suc (nodes_in h)) None)
+      ∙ ap (λ n. length old.hashes + n) (length-replicate (suc (nodes_in h)) None)
+      ∙ ap (λ n. n + suc (nodes_in h)) long
+      ∙ sym (nodes_in-suc h)
+      ∙ ap nodes_in (sym (add-one h))
 
-  -- its first new leaf is filled
-  pub append_edits : (new : CellList) (i : ℕ) (x : LeafNode) → i ≡ 2 ^ h → PutsLeaf (h + 1) i (Some x) mid new → AppendsLeaf h x old new
-  append_edits new i x at made =
-      let same = (stands_for-grow h old.nodes mid.nodes nodes).term in
+  pub leaf_appended : (i : ℕ) (x : LeafNode) (new : CellList) → i ≡ 2 ^ h → PutsLeaf (h + 1) i (Some x) mid new → AppendsLeaf h x old new
+  leaf_appended i x new at puts =
       record {
-        nodes = appended h i x old.nodes mid.nodes new.nodes at same made.nodes;
+        nodes = appended h i x old.nodes mid.nodes new.nodes at grown_for.term puts.nodes;
         hashes =
-            made.hashes
-            ∙ ap (λ t. drop_hashes 0 t i mid.hashes) same
-            ∙ ap (drop_hashes 0 (grow (term_of h old.nodes)) i) hashes
-            ∙ ap (λ k. drop_hashes 0 (grow (term_of h old.nodes)) k (old.hashes ++ replicate (suc (nodes_in h)) None)) at;
+            puts.hashes
+            ∙ ap (λ t. drop_hashes 0 t i mid.hashes) grown_for.term
+            ∙ ap (λ j. drop_hashes 0 (grow (term_of h old.nodes)) j mid.hashes) at
+            ∙ ap (drop_hashes 0 (grow (term_of h old.nodes)) (2 ^ h)) cold;
       }
 
-  abbrev cells_of : List (Option Node) → List (Option (List ℕ)) → CellList
-  cells_of xs hs = record { nodes = xs; hashes = hs }
-
   -- what was added is taken back
-  pub cut_edits : (new : CellList) (n : ℕ) → n ≡ length old.nodes → new ≡ first_cells n mid → new ≡ old
-  cut_edits new n count cut =
-      let slots : take n mid.nodes ≡ old.nodes =
-      ap (take n) (nodes ∙ in_order-grow h old.nodes stands) ∙ take_at old.nodes (replicate (suc (nodes_in h)) None) n (sym count) in
-      let kept : take n mid.hashes ≡ old.hashes =
-      ap (take n) hashes ∙ take_at old.hashes (replicate (suc (nodes_in h)) None) n (long ∙ sym stands.size ∙ sym count) in
-      cut ∙ ap (λ xs. cells_of xs (take n mid.hashes)) slots ∙ ap (cells_of old.nodes) kept
+  pub taken_back : (count : ℕ) (between new : CellList) → count ≡ length old.nodes → between ≡ mid → new ≡ first_cells count between → new ≡ old
+  taken_back count between new all same cut =
+      let nodes : take count mid.nodes ≡ old.nodes = ap (take count) (grown ∙ in_order-grow h old.nodes stands) ∙ take_at old.nodes (replicate (suc (nodes_in h)) None) count (sym all) in
+      let hashes : take count mid.hashes ≡ old.hashes = ap (take count) cold ∙ take_at old.hashes (replicate (suc (nodes_in h)) None) count (long ∙ sym stands.size ∙ sym all) in
+      let f : List (Option Node) → CellList = λ xs. record { nodes = xs; hashes = take count mid.hashes } in
+      let g : List (Option (List ℕ)) → CellList = λ hs. record { nodes = old.nodes; hashes = hs } in
+      cut ∙ ap (first_cells count) same ∙ ap f nodes ∙ ap g hashes
 
 -- ---- a path that is followed
 
-module _ (h i : ℕ) (t u : Term) (old mid : CellList) (p : is_perfect h t ≡ true) (warm : old.hashes ≡ hashes_of 0 t) (edits : EditsLeaf h i t u old mid) where
-  pub cold_after : length old.hashes ≡ nodes_in h → IsColdOnWay h 0 i mid.hashes
-  cold_after long = subst (IsColdOnWay h 0 i) (sym edits.hashes) (cold_whole h i t old.hashes p (long ∙ sym (size-perfect h t p)))
+module _ (h i : ℕ) (t u : Term) (old mid : CellList) (perfect : is_perfect h t ≡ true) (dropped : mid.hashes ≡ drop_hashes 0 t i old.hashes) where
+  pub cold_after : length old.hashes ≡ size t → IsColdOnWay h 0 i mid.hashes
+  cold_after long = subst (IsColdOnWay h 0 i) (sym dropped) (cold_whole h i t old.hashes perfect long)
 
-  pub warm_after : (ws : List (List ℕ)) (new : CellList) → DifferOnWay 0 i t u → ws ≡ way_hashes 0 u i → KeepsOnWay h 0 i ws mid new → new.hashes ≡ hashes_of 0 u
-  warm_after ws new differ are kept =
-      ap (λ (c : CellList). c.hashes) kept
-      ∙ ap (keep_on_way h 0 i ws) (edits.hashes ∙ ap (drop_hashes 0 t i) warm)
+  pub kept_after : (ws : List (List ℕ)) (new : CellList) → DifferOnWay 0 i t u → old.hashes ≡ hashes_of 0 t → ws ≡ way_hashes 0 u i → KeepsOnWay h 0 i ws mid new → new.hashes ≡ hashes_of 0 u
+  kept_after ws new differ all are keeps =
+      ap (λ c. c.hashes) keeps
+      ∙ ap (keep_on_way h 0 i ws) (dropped ∙ ap (drop_hashes 0 t i) all)
       ∙ ap (λ vs. keep_on_way h 0 i vs (drop_hashes 0 t i (hashes_of 0 t))) are
-      ∙ kept_whole h i t u p differ
+      ∙ kept_whole h i t u perfect differ
 
--- a merged path differs from its tree on the way alone
-pub differ_path : (t : Term) (i : ℕ) (x : LeafNode) (keys : List (List ℕ)) → DifferOnWay 0 i t (merge_path t i x keys)
-differ_path t i x keys = subst (DifferOnWay 0 i t) (merge_is t i x keys) (differ_merge 0 t i (reverse keys) [] x)
+-- ---- answers that are handed on
+
+pub on_ok : {A E : Type 0} (r : Result A E) (P Q : Type 0) → (P → Q) → OnOk r P → OnOk r Q
+on_ok (Ok v) P Q f p = f p
+on_ok (Err e) P Q f p = p
+
+-- beside the way the nodes are the same, whether the edit was made or not
+module _ {A E : Type 0} (h i : ℕ) (old new : CellList) (s : KeyIndexes) (stands : Stands h old.nodes) where
+  pub beside_put : (r : Result A E) (x : Option LeafNode) → OnOk r (PutsLeaf h i x old new) → OnErr r (new ≡ old) → AreIndexes (cells_without 0 (way_numbers h i) old.nodes) s → AreIndexes (cells_without 0 (way_numbers h i) new.nodes) s
+  beside_put (Ok v) x ok err is = indexed-put h i old.nodes new.nodes s stands x ok.nodes is
+  beside_put (Err e) x ok err is = subst (λ (c : CellList). AreIndexes (cells_without 0 (way_numbers h i) c.nodes) s) (sym err) is
+
+  pub beside_merge : (r : Result A E) (x : LeafNode) (keys : List (List ℕ)) (kept : Bool) → (kept ≡ true → IsClient x.signature_key (leaf_of (term_of h old.nodes) i)) → OnOk r (EditsLeaf h i (term_of h old.nodes) (merge_path (term_of h old.nodes) i x keys) old new) → OnErr r (new ≡ old) → AreBeside kept (way_numbers h i) old.nodes s → AreBeside kept (way_numbers h i) new.nodes s
+  beside_merge (Ok v) x keys kept own ok err is = indexed-merge h i old.nodes new.nodes s stands x keys kept own ok.nodes is
+  beside_merge (Err e) x keys kept own ok err is = subst (λ (c : CellList). AreBeside kept (way_numbers h i) c.nodes s) (sym err) is

@@ -23,6 +23,7 @@ pub mod Fitting
 pub mod Checked
 pub mod EditsKeepGood
 pub mod KeptHashes
+pub mod CellEdits
 pub mod Costs
 pub mod Chilling
 pub mod Bounding

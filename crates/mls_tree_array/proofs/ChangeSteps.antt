@@ -1,5 +1,6 @@
 -- Edits at a leaf as changes, by the first step on the way to it.
 use Rattle.std.proofs.Common.{◌≡◌, ℕ, suc, ◌+◌, ◌*◌, ◌<◌, ◌≤◌, List, [], ◌∷◌, ◌++◌, Option, Some, None, sym, ◌∙◌, ap, inl, inr, arith, append_assoc}
+use Rattle.std.proofs.lemmas.List.Elements.{All-same, All-push}
 use Rattle.mls_leaf.specs.Parent.{Parent}
 use Rattle.mls_leaf.specs.declared.leaf.LeafNode.{LeafNode}
 use Rattle.mls_leaf.specs.declared.node.Node.{Node}
@@ -11,10 +12,11 @@ use Rattle.mls_tree_model.specs.Merge.{merge, parent_beside, keys_beside, hash_b
 use Rattle.mls_tree_model.specs.Arrays.{leaf_cell, parent_cell}
 use Rattle.mls_tree_model.proofs.Equations.{put_leaf, put_left, put_right, enter_leaf, enter_left, enter_right, merge_leaf, merge_left, merge_right}
 use Rattle.mls_tree_model.proofs.ShapeLaws.{size-width}
-use Rattle.mls_tree_array.specs.Changes.{change, cells_on_way}
+use Rattle.mls_tree_array.specs.Changes.{change, cells_on_way, AreBelow}
 use Rattle.mls_tree_array.specs.Merging.{path_parents, first_if, rest_if}
 use Rattle.mls_tree_array.specs.Subtrees.{Subtree, root_number, IsOver, IsStep}
 use Rattle.mls_tree_array.proofs.ChangeLaws.{cells_on_way_leaf, cells_on_way_left, cells_on_way_right, DifferOnWay, differ_put, differ_enter, differ_merge, width_differ}
+use Rattle.mls_tree_array.proofs.HashedLaws.{within, left_within, right_within}
 use Rattle.mls_tree_array.proofs.Merged.{no_parents, none_below, first_made, rest_made}
 use Rattle.mls_tree_array.proofs.StepLaws.{parents_step}
 
@@ -112,6 +114,24 @@ module _ (t : Subtree) (i : ℕ) (s : Subtree) (c : Option Parent) (o : Subtree)
 
       pub rest_is : rest_if (is_reached o.first o.term) ps ≡ more
       rest_is = ap (rest_if (is_reached o.first o.term)) (made ∙ parents_step t i s c o step ks h) ∙ rest_made (is_reached o.first o.term) ks h more none
+
+-- ---- the places of changes
+
+-- the root is one of the cells
+pub pushed_below : (t : Subtree) (old new : List Change) (n : ℕ) (s : Option Node) → n ≡ root_number t.first t.term → new ≡ old ++ (change n s ∷ []) → (m : ℕ) → 2 * t.first + size t.term ≤ m → AreBelow m old → AreBelow m new
+pushed_below t old new n s at is m le all =
+    All-same (λ (c : Change). c.place < m) new (old ++ (change n s ∷ [])) is
+    (All-push (λ (c : Change). c.place < m) old (change n s) all (let low = within t n (2 * t.first + size t.term) at (omega arith) in omega arith))
+
+-- the cells of a side are among them
+pub side_below : (t : Subtree) (i : ℕ) (s : Subtree) (c : Option Parent) (o : Subtree) → IsStep t i s c o → 2 * s.first + size s.term ≤ 2 * t.first + size t.term
+side_below t i s c o step =
+    let len : ℕ = 2 * t.first + size t.term in
+    let all : 2 * t.first + size t.term ≤ len = omega arith in
+    elim step.turn [
+      | inl w ↦ left_within t len all s c o w.0
+      | inr w ↦ right_within t len all o c s w.0
+    ]
 
 -- one change was added, and then the others
 pub added_then : (old between new rest : List Change) (one : Change) → between ≡ old ++ (one ∷ []) → new ≡ between ++ rest → new ≡ old ++ (one ∷ rest)

@@ -65,16 +65,16 @@ module _ (t : Subtree) where
           ∙ ap (drop (suc (size l.term))) parts
           ∙ right_part (hashes_of l.first l.term) (hashes_of r.first r.term) (Some (tree_hash t.first (Branch c l.term r.term))) (size l.term) (length-hashes_of l.first l.term)
 
-    module _ (len : ℕ) (shape : 2 * t.first + size t.term ≤ len) (l : Subtree) (c : Option Parent) (r : Subtree) (over : IsOver t l c r) where
-      pub left_within : 2 * l.first + size l.term ≤ len
-      left_within =
-          let s : size t.term ≡ size l.term + suc (size r.term) = ap size over.is ∙ size_branch c l.term r.term in
-          let first : l.first ≡ t.first = over.left_first in
-          omega arith
+  module _ (len : ℕ) (shape : 2 * t.first + size t.term ≤ len) (l : Subtree) (c : Option Parent) (r : Subtree) (over : IsOver t l c r) where
+    pub left_within : 2 * l.first + size l.term ≤ len
+    left_within =
+        let s : size t.term ≡ size l.term + suc (size r.term) = ap size over.is ∙ size_branch c l.term r.term in
+        let first : l.first ≡ t.first = over.left_first in
+        omega arith
 
-      pub right_within : 2 * r.first + size r.term ≤ len
-      right_within =
-          let s : size t.term ≡ size l.term + suc (size r.term) = ap size over.is ∙ size_branch c l.term r.term in
-          let wide : size l.term + 1 ≡ 2 * width l.term = size-width l.term in
-          let first : r.first ≡ t.first + width l.term = over.right_first in
-          omega arith
+    pub right_within : 2 * r.first + size r.term ≤ len
+    right_within =
+        let s : size t.term ≡ size l.term + suc (size r.term) = ap size over.is ∙ size_branch c l.term r.term in
+        let wide : size l.term + 1 ≡ 2 * width l.term = size-width l.term in
+        let first : r.first ≡ t.first + width l.term = over.right_first in
+        omega arith

@@ -32,6 +32,7 @@ pub mod Ties
 pub mod Splitting
 pub mod WayHashes
 pub mod WayLaws
+pub mod WholeChanges
 pub mod Blanks
 pub mod WitnessLaws
 pub mod ChainLaws

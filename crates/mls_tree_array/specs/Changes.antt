@@ -1,6 +1,7 @@
 -- Edits at a leaf as changes of the cells on the way to it.
-use Rattle.std.specs.Prelude.{◌≡◌, ℕ, ◌+◌, ◌*◌, nat_lt, if◌then◌else◌, List, [], ◌∷◌, Option}
+use Rattle.std.specs.Prelude.{◌≡◌, ℕ, ◌+◌, ◌*◌, ◌<◌, ◌≤◌, nat_lt, if◌then◌else◌, List, [], ◌∷◌, Option}
 use Rattle.std.specs.Global.{Vec}
+use Rattle.std.specs.List.{All}
 use Rattle.mls_leaf.specs.Parent.{Parent}
 use Rattle.mls_leaf.specs.declared.leaf.LeafNode.{LeafNode}
 use Rattle.mls_leaf.specs.declared.node.Node.{Node}
@@ -37,3 +38,15 @@ AddsMerge t i leaf ps old new =
 abbrev pub MakesMerge : Subtree → ℕ → LeafNode → List Parent → Vec Change → Type 0
 MakesMerge t i leaf ps = λ changes.
     (ks : List (List ℕ)) (above : List ℕ) → ps ≡ path_parents t.first t.term i ks above → changes.items ≡ cells_on_way t.first (merge t.first t.term i ks above leaf) i
+
+-- each change has a place below n
+abbrev pub AreBelow : ℕ → List Change → Type 0
+AreBelow n cs = All (λ (c : Change). c.place < n) cs
+
+-- changes of cells of a subtree alone were added
+abbrev pub AddsWithin : Subtree → Vec Change → Vec Change → Type 0
+AddsWithin t old new = (n : ℕ) → 2 * t.first + size t.term ≤ n → AreBelow n old.items → AreBelow n new.items
+
+-- the changes are of cells of a subtree alone, or of cells before it
+abbrev pub AreWithin : Subtree → Vec Change → Type 0
+AreWithin t = λ changes. AreBelow (2 * t.first + size t.term) changes.items

@@ -7,7 +7,7 @@ ghost use Rattle.std.specs.Vec.Iter.{into_iter_items};
 ghost use Rattle.mls_tree_model.specs.Term.{height};
 ghost use Rattle.mls_tree_model.specs.Edits.{put, enter, list_leaf};
 ghost use Rattle.mls_tree_model.specs.Arrays.{parent_in, leaf_cell, parent_cell};
-ghost use Rattle.mls_tree_array.specs.Changes.{cells_on_way, AddsChanges, AddsMerge, MakesMerge};
+ghost use Rattle.mls_tree_array.specs.Changes.{cells_on_way, AddsChanges, AddsMerge, AddsWithin, AreWithin, MakesMerge};
 ghost use Rattle.mls_tree_array.specs.Merging.{first_if, rest_if};
 
 use crate::places::parent_in;
@@ -152,7 +152,8 @@ fn push_merge(
     out: &mut Vec<Change>,
 )
     requires { vec_len out.old + suc (height tree.now.term) ≤ vec_capacity out.old }
-    ensures { AddsMerge tree.now i leaf (into_iter_items parents.old) out.old out.new }
+    ensures made { AddsMerge tree.now i leaf (into_iter_items parents.old) out.old out.new }
+    ensures within { AddsWithin tree.now out.old out.new }
 {
     let place = tree.number();
     match tree.step_to(i) {
@@ -177,7 +178,9 @@ pub fn merge_changes(
     parents: Vec<SharedParent>,
     leaf: SharedLeaf,
 ) -> Result<Vec<Change>, AllocError>
-    ensures { IfOk result (MakesMerge tree.now i leaf parents.items) }
+    ensures made { IfOk result (MakesMerge tree.now i leaf parents.items) }
+    // Whatever parents are given, only cells of the tree are changed.
+    ensures within { IfOk result (AreWithin tree.now) }
 {
     let mut changes = make_room(alloc, tree)?;
     let mut parents = parents.into_iter();

@@ -1,0 +1,3 @@
+pub mod SpreadLaws
+pub mod PartLaws
+pub mod CellLaws

@@ -5,13 +5,13 @@ use Rattle.mls_tree_cells.specs.Cells.{CellList}
 use Rattle.mls_tree_cells.specs.Chunks.{ChunkRow}
 
 -- the elements of chunks, with a top behind each chunk but the last one
-unfoldable pub interleave : {A : Type 0} → List (List A) → List A → List A
+abbrev pub interleave : {A : Type 0} → List (List A) → List A → List A
 interleave [] ts = []
 interleave (c ∷ cs) [] = c
 interleave (c ∷ cs) (t ∷ ts) = c ++ (t ∷ interleave cs ts)
 
 -- each chunk has 255 elements, but the last one, which has at most so many, and there is one chunk more than tops
-unfoldable pub AreSpread : {A : Type 0} → List (List A) → List A → Type 0
+abbrev pub AreSpread : {A : Type 0} → List (List A) → List A → Type 0
 AreSpread [] ts = ⊥
 AreSpread (c ∷ cs) [] = (cs ≡ []) × (length c ≤ 255)
 AreSpread (c ∷ cs) (t ∷ ts) = (length c ≡ 255) × AreSpread cs ts
@@ -20,11 +20,11 @@ AreSpread (c ∷ cs) (t ∷ ts) = (length c ≡ 255) × AreSpread cs ts
 abbrev pub rows_of : List ChunkRow → List CellList
 rows_of cs = map (λ c. c.row) cs
 
--- whether each may be shared
+-- whether copies may share each chunk
 abbrev pub shares_of : List ChunkRow → List Bool
 shares_of cs = map (λ c. c.shared) cs
 
--- the nodes of each
+-- the nodes of each row
 abbrev pub nodes_of : List CellList → List (List (Option Node))
 nodes_of rs = map (λ r. r.nodes) rs
 
@@ -32,19 +32,16 @@ nodes_of rs = map (λ r. r.nodes) rs
 abbrev pub hashes_of : List CellList → List (List (Option (List ℕ)))
 hashes_of rs = map (λ r. r.hashes) rs
 
--- the nodes of chunks and of the tops behind them
-abbrev pub all_nodes : List ChunkRow → CellList → List (Option Node)
-all_nodes cs tops = interleave (nodes_of (rows_of cs)) tops.nodes
+-- the cells of rows and of the tops behind them
+abbrev pub all_cells : List CellList → CellList → CellList
+all_cells rs tops =
+    record { nodes = interleave (nodes_of rs) tops.nodes; hashes = interleave (hashes_of rs) tops.hashes }
 
--- the hashes kept beside them
-abbrev pub all_hashes : List ChunkRow → CellList → List (Option (List ℕ))
-all_hashes cs tops = interleave (hashes_of (rows_of cs)) tops.hashes
-
--- what holds of chunks and the tops behind them
-pub record AreParts (cs : List ChunkRow) (tops : CellList) : Type 0 where
-  pub nodes : AreSpread (nodes_of (rows_of cs)) tops.nodes
-  pub hashes : AreSpread (hashes_of (rows_of cs)) tops.hashes
-  pub long : length (all_hashes cs tops) ≡ length (all_nodes cs tops)
+-- what holds of rows and the tops behind them
+pub record AreParts (rs : List CellList) (tops : CellList) : Type 0 where
+  pub nodes : AreSpread (nodes_of rs) tops.nodes
+  pub hashes : AreSpread (hashes_of rs) tops.hashes
+  pub long : length (interleave (hashes_of rs) tops.hashes) ≡ length (interleave (nodes_of rs) tops.nodes)
 
 -- all cells, and whether copies may share each chunk
 pub record PartList : Type 0 where
@@ -62,5 +59,5 @@ StaysOpen old new = (x : ℕ) → IsOpen old x → IsOpen new x
 -- so many cells end in the last chunk
 pub record EndsIn (count : ℕ) (cells : CellList) : Type 0 where
   pub nodes : count ≤ length cells.nodes
-  pub hashes : count ≤ length cells.hashes
+  pub hashes : length cells.hashes ≡ length cells.nodes
   pub last : length cells.nodes / 256 ≡ count / 256

@@ -1,6 +1,6 @@
 //! The chunks of a list of cells and the tops between them.
 
-ghost use Rattle.std.specs.Prelude.{◌≡◌, ◌<◌, ◌≤◌, [], Some, None, length, get_or, slice_set, IfOk, OnOk, OnErr};
+ghost use Rattle.std.specs.Prelude.{◌≡◌, ℕ, ◌<◌, ◌≤◌, [], Some, None, length, get_or, slice_set, IfOk, OnOk, OnErr};
 ghost use Rattle.std.specs.List.{All};
 ghost use Rattle.mls_tree_cells.specs.Cells.{Puts};
 ghost use Rattle.mls_tree_cells.specs.Rows.{AddsBlanks, AddsCell, SetsSlot, first_cells};
@@ -14,10 +14,10 @@ use std::alloc::{AllocError, Global};
 use std::marker::Model;
 
 /// How many cells a chunk has with the top behind it.
-const CHUNK: usize = 256;
+const CHUNK_SIZE: usize = 256;
 
 /// Where the top stands behind the cells of a chunk.
-const TOP: usize = CHUNK - 1;
+const TOP: usize = CHUNK_SIZE - 1;
 
 /// Cells in chunks: behind each chunk but the last one, which alone may have fewer cells, a top stands. The tops are the
 /// upper part of a tree, and each chunk is a subtree below it.
@@ -28,13 +28,13 @@ pub(crate) struct Parts {
 }
 
 impl Model for Parts {
-    ghost use Rattle.mls_tree_cells.specs.Parts.{AreParts, PartList, all_hashes, all_nodes, shares_of};
+    ghost use Rattle.mls_tree_cells.specs.Parts.{AreParts, PartList, all_cells, rows_of, shares_of};
 
     ghost Value = { PartList };
 
-    ghost view = { λ p. record { cells = record { nodes = all_nodes p.chunks.items p.tops; hashes = all_hashes p.chunks.items p.tops }; shares = shares_of p.chunks.items } };
+    ghost view = { λ p. record { cells = all_cells (rows_of p.chunks.items) p.tops; shares = shares_of p.chunks.items } };
 
-    ghost invariant = { λ p. AreParts p.chunks.items p.tops };
+    ghost invariant = { λ p. AreParts (rows_of p.chunks.items) p.tops };
 }
 
 /// Lets later copies share each chunk whose hashes are all kept.
@@ -69,11 +69,11 @@ impl Parts {
         requires { x < length self.now.cells.nodes }
         ensures { result.now ≡ get_or self.now.cells.nodes x None }
     {
-        let offset = x % CHUNK;
+        let offset = x % CHUNK_SIZE;
         if offset < TOP {
-            self.chunks[x / CHUNK].row().slot(offset)
+            self.chunks[x / CHUNK_SIZE].row().slot(offset)
         } else {
-            self.tops.slot(x / CHUNK)
+            self.tops.slot(x / CHUNK_SIZE)
         }
     }
 
@@ -82,11 +82,11 @@ impl Parts {
         requires { x < length self.now.cells.nodes }
         ensures { result ≡ get_or self.now.cells.hashes x None }
     {
-        let offset = x % CHUNK;
+        let offset = x % CHUNK_SIZE;
         if offset < TOP {
-            self.chunks[x / CHUNK].row().hash(offset)
+            self.chunks[x / CHUNK_SIZE].row().hash(offset)
         } else {
-            self.tops.hash(x / CHUNK)
+            self.tops.hash(x / CHUNK_SIZE)
         }
     }
 
@@ -97,8 +97,8 @@ impl Parts {
         ensures open { OnOk result (IsOpen self.new.shares x) }
         ensures others { StaysOpen self.old.shares self.new.shares }
     {
-        if x % CHUNK < TOP {
-            self.chunks[x / CHUNK].make_own()?;
+        if x % CHUNK_SIZE < TOP {
+            self.chunks[x / CHUNK_SIZE].make_own()?;
         }
         Ok(())
     }
@@ -122,11 +122,11 @@ impl Parts {
         ensures cells { SetsSlot x slot self.old.cells self.new.cells }
         ensures shares { self.new.shares ≡ self.old.shares }
     {
-        let offset = x % CHUNK;
+        let offset = x % CHUNK_SIZE;
         if offset < TOP {
-            self.chunks[x / CHUNK].put(offset, slot);
+            self.chunks[x / CHUNK_SIZE].put(offset, slot);
         } else {
-            self.tops.put(x / CHUNK, slot);
+            self.tops.put(x / CHUNK_SIZE, slot);
         }
     }
 
@@ -148,11 +148,11 @@ impl Parts {
         ensures { self.new.cells ≡ record self.old.cells { hashes =
             slice_set self.old.cells.hashes x (Some hash) } }
     {
-        let offset = x % CHUNK;
+        let offset = x % CHUNK_SIZE;
         if offset < TOP {
-            self.chunks[x / CHUNK].keep_hash(offset, hash);
+            self.chunks[x / CHUNK_SIZE].keep_hash(offset, hash);
         } else {
-            self.tops.keep_hash(x / CHUNK, hash);
+            self.tops.keep_hash(x / CHUNK_SIZE, hash);
         }
     }
 
@@ -172,11 +172,10 @@ impl Parts {
         Ok(())
     }
 
-    /// Adds blank cold cells at the end. Without memory for all, those before stay, and some may have been added.
+    /// Adds blank cold cells at the end. Without memory for all some may have been added.
     pub(crate) fn push_blanks(&mut self, count: usize) -> Result<(), AllocError>
         ensures ok { OnOk result (AddsBlanks count self.old.cells self.new.cells) }
-        ensures err { OnErr result (first_cells (length self.old.cells.nodes) self.new.cells ≡
-            self.old.cells) }
+        ensures err { OnErr result ((n : ℕ) × AddsBlanks n self.old.cells self.new.cells) }
     {
         for _ in 0..count {
             self.push(Slot::blank())?;
@@ -190,8 +189,8 @@ impl Parts {
         ensures cells { first_cells count self.new.cells ≡ first_cells count self.old.cells }
         ensures end { EndsIn count self.new.cells }
     {
-        self.chunks.truncate(count / CHUNK + 1);
-        self.tops.truncate(count / CHUNK);
+        self.chunks.truncate(count / CHUNK_SIZE + 1);
+        self.tops.truncate(count / CHUNK_SIZE);
     }
 
     /// Keeps the first cells alone, which end in the last chunk. Without memory for a copy of it all stays.
@@ -201,7 +200,7 @@ impl Parts {
         ensures err { OnErr result (self.new.cells ≡ self.old.cells) }
     {
         let last = self.chunks.len() - 1;
-        self.chunks[last].truncate(count % CHUNK)
+        self.chunks[last].truncate(count % CHUNK_SIZE)
     }
 
     /// Lets later copies share the chunks whose hashes are all kept.
