@@ -199,12 +199,12 @@ module _ {A : Type 0} (h b : ℕ) (xs : List A) (d : A) (within : 2 * b + nodes_
   five : xs ≡ front ++ (left ++ (root ∷ (right ++ rest)))
   five =
       let next : 2 * b + nodes_in h + 1 ≡ 2 * (b + 2 ^ h) = omega (arith, nodes_in-leaves h) in
-      let opened : drop (2 * b + nodes_in h) xs ≡ root ∷ drop (2 * b + nodes_in h + 1) xs = drop_more xs (2 * b + nodes_in h) d (omega (arith, nodes_in-suc h)) in
+      let free : drop (2 * b + nodes_in h) xs ≡ root ∷ drop (2 * b + nodes_in h + 1) xs = drop_more xs (2 * b + nodes_in h) d (omega (arith, nodes_in-suc h)) in
       let behind : drop (2 * (b + 2 ^ h)) xs ≡ right ++ rest =
       sym (take-append-drop (nodes_in h) (drop (2 * (b + 2 ^ h)) xs))
       ∙ ap (λ zs. right ++ zs) (drop-drop (nodes_in h) (2 * (b + 2 ^ h)) xs) in
       in_pieces (2 * b) (nodes_in h) xs
-      ∙ ap (λ zs. front ++ (left ++ zs)) opened
+      ∙ ap (λ zs. front ++ (left ++ zs)) free
       ∙ ap (λ k. front ++ (left ++ (root ∷ drop k xs))) next
       ∙ ap (λ zs. front ++ (left ++ (root ∷ zs))) behind
 

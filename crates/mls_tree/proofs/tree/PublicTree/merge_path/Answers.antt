@@ -41,7 +41,7 @@ returns-clause-cold c = (
   warmed c.args.self.now c.tree_hash-tree_hash.new.self c.tree_hash-tree_hash.ensures.all c.tree_hash-tree_hash.ensures.counted,
   c.tree_hash-tree_hash.ensures.same,
   (let made = c.in-Ok.ensures.parents ∙ ap (λ t. path_parents 0 (term t) c.args.i (reverse c.args.keys.items) []) (sym c.self.view_is) in
-  subst (λ t. Chills t c.args.i c.tree_hash-tree_hash.new.self (tree_of c.self.inside.height c.merge_with_indexes.new.cells.nodes c.merge_with_indexes.new.cells.hashes c.self.inside.done)) c.tree_hash-tree_hash.ensures.same
+      subst (λ t. Chills t c.args.i c.tree_hash-tree_hash.new.self (tree_of c.self.inside.height c.merge_with_indexes.new.cells.nodes c.merge_with_indexes.new.cells.hashes c.self.inside.done)) c.tree_hash-tree_hash.ensures.same
       (edited_in c.self.inside.height c.args.i c.self.inside.cells.nodes _ _ _ c.self.view_is c.self.invariant.2 (subst (λ t. is_some (leaf_of t c.args.i) ≡ true) (sym c.tree_hash-tree_hash.ensures.same) (merge_member _ _ _ _ _ (returns-clause-answer c))) c.merge_with_indexes.new.cells.nodes c.merge_with_indexes.new.cells.hashes c.self.inside.done (c.in_ok-merge_with_indexes.ensures.merged c.args.keys.items made).hashes refl)),
 )
 
