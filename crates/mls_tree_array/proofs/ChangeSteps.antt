@@ -94,16 +94,16 @@ module _ (t : Subtree) (i : ℕ) (s : Subtree) (c : Option Parent) (o : Subtree)
           | inl w ↦
               rw (w.0.is, w.0.left_first, w.0.right_first, merge_left t.first c s.term o.term i ks h x (low s o w.0 w.1))
               (way_on_left t.first i _ s.term o.term _ (low s o w.0 w.1) (differ_merge t.first s.term i _ _ x)
-              ∙ ap (λ m. change m _ ∷ cells_on_way t.first _ i) (root s o w.0))
+              ∙ ap (λ m. change m (parent_cell (parent_beside (t.first + width s.term) o.term ks h)) ∷ cells_on_way t.first (merge t.first s.term i (keys_beside (t.first + width s.term) o.term ks) (hash_beside (t.first + width s.term) o.term ks h) x) i) (root s o w.0))
           | inr w ↦
               rw (w.0.is, w.0.left_first, w.0.right_first, merge_right t.first c o.term s.term i ks h x (high o s w.0 w.1))
               (way_on_right t.first i _ o.term s.term _ (high o s w.0 w.1)
-              ∙ ap (λ m. change m _ ∷ cells_on_way (t.first + width o.term) _ i) (root o s w.0))
+              ∙ ap (λ m. change m (parent_cell (parent_beside t.first o.term ks h)) ∷ cells_on_way (t.first + width o.term) (merge (t.first + width o.term) s.term i (keys_beside t.first o.term ks) (hash_beside t.first o.term ks h) x) i) (root o s w.0))
         ]
 
     -- the parents that are given are those that a merge makes
     module _ (ps : List Parent) (made : ps ≡ path_parents t.first t.term i ks h) where
-      more : List Parent
+      abbrev more : List Parent
       more = path_parents s.first s.term i (keys_beside o.first o.term ks) (hash_beside o.first o.term ks h)
 
       none : ks ≡ [] → more ≡ []
