@@ -1,6 +1,7 @@
 -- Laws of lists of changes, and of the first cells.
-use Rattle.std.proofs.Common.{◌≡◌, ℕ, zero, suc, ◌+◌, ◌/◌, ◌<◌, ◌≤◌, List, [], ◌∷◌, ◌++◌, length, take, set, replicate, Option, None, refl, sym, ◌∙◌, ap, arith, length-append, length-set, length-take}
-use Rattle.std.proofs.lemmas.List.{take_all, take-append-le, length-replicate}
+use Rattle.std.proofs.Common.{◌≡◌, ℕ, zero, suc, ◌+◌, ◌/◌, ◌<◌, ◌≤◌, List, [], ◌∷◌, ◌++◌, length, get_or, take, set, replicate, Option, None, refl, sym, ◌∙◌, ap, subst, arith, length-append, length-set, length-take}
+use Rattle.std.proofs.lemmas.List.{get_or-take, take_all, take_at, take-take, length-replicate}
+use Rattle.std.specs.List.{All}
 use Rattle.mls_leaf.specs.declared.node.Node.{Node}
 use Rattle.mls_tree_cells.specs.Cells.{CellList, Puts, put_nodes, drop_hashes_at}
 use Rattle.mls_tree_cells.specs.Rows.{AddsBlanks, AddsCell, first_cells}
@@ -94,3 +95,114 @@ module _ (n count : ℕ) (old cut new : CellList) (ends : EndsIn n old) (is : cu
         nodes = take_all (n + count) new.nodes (omega arith) ∙ adds.nodes ∙ ap (λ (c : CellList). c.nodes ++ replicate count None) is;
         hashes = take_all (n + count) new.hashes (omega arith) ∙ adds.hashes ∙ ap (λ (c : CellList). c.hashes ++ replicate count None) is;
       }
+
+-- ---- the first ones of some cells are what is seen
+
+module _ (len : ℕ) (cells value : CellList) (view : first_cells len cells ≡ value) (ends : EndsIn len cells) where
+  pub seen_nodes : length value.nodes ≡ len
+  seen_nodes = ap (λ (c : CellList). length c.nodes) (sym view) ∙ (length_front len cells ends).0
+
+  pub seen_hashes : length value.hashes ≡ len
+  seen_hashes = ap (λ (c : CellList). length c.hashes) (sym view) ∙ (length_front len cells ends).1
+
+  module _ (x : ℕ) (lt : x < length value.nodes) where
+    below : x < len
+    below = let long = seen_nodes in omega arith
+
+    pub cell_within : x < length cells.nodes
+    cell_within =
+        let less = below in
+        let within = ends.nodes in
+        omega arith
+
+    pub node_is : get_or cells.nodes x None ≡ get_or value.nodes x None
+    node_is = sym (get_or-take len cells.nodes x None below) ∙ ap (λ (c : CellList). get_or c.nodes x None) view
+
+    pub hash_is : (d : Option (List ℕ)) → get_or cells.hashes x d ≡ get_or value.hashes x d
+    hash_is d = sym (get_or-take len cells.hashes x d below) ∙ ap (λ (c : CellList). get_or c.hashes x d) view
+
+    pub keep_is : (new : CellList) (h : Option (List ℕ)) → new ≡ record cells { hashes = set cells.hashes x h } → first_cells len new ≡ record value { hashes = set value.hashes x h }
+    keep_is new h kept =
+        let keep : CellList → CellList = λ c. record c { hashes = set c.hashes x h } in
+        ap (first_cells len) kept
+        ∙ same_cells (first_cells len (keep cells)) (keep (first_cells len cells)) refl (take_set len cells.hashes x h)
+        ∙ ap keep view
+
+    pub keep_ends : (new : CellList) (h : Option (List ℕ)) → new ≡ record cells { hashes = set cells.hashes x h } → EndsIn len new
+    keep_ends new h kept =
+        let nodes = ap (λ (c : CellList). length c.nodes) kept in
+        let hashes = ap (λ (c : CellList). length c.hashes) kept ∙ length-set cells.hashes x h in
+        let within = ends.nodes in
+        let same = ends.hashes in
+        record { nodes = omega arith; hashes = omega arith; last = ap (λ k. k / 256) nodes ∙ ends.last }
+
+  pub all_within : (cs : List Change) → All (λ (c : Change). c.place < length value.nodes) cs → All (λ (c : Change). c.place < length cells.nodes) cs
+  all_within cs all k d lt = cell_within (get_or cs k d).place (all k d lt)
+
+  pub put_is : (cs : List Change) (new : CellList) → Puts cs cells new → Puts cs value (first_cells len new)
+  put_is cs new puts =
+      subst (λ (c : CellList). Puts cs c (first_cells len new)) view (puts_front len cs cells new puts)
+
+  pub grow_is : (count : ℕ) (cut new : CellList) → cut ≡ first_cells len cells → AddsBlanks count cut new → AddsBlanks count value (first_cells (len + count) new)
+  grow_is count cut new is adds =
+      subst (λ (c : CellList). AddsBlanks count c (first_cells (len + count) new)) view (grown len count cells cut new ends is adds)
+
+  pub grow_ends : (count : ℕ) (cut new : CellList) → cut ≡ first_cells len cells → AddsBlanks count cut new → EndsIn (len + count) new
+  grow_ends count cut new is adds = grown_ends len count cells cut new ends is adds
+
+  -- a growth that is taken back
+  module _ (cut mid : CellList) (is : cut ≡ first_cells len cells) (adds : (n : ℕ) × AddsBlanks n cut mid) where
+    pub mid_within : len ≤ length mid.nodes
+    mid_within =
+        let long = ap (λ (c : CellList). length c.nodes) is ∙ (length_front len cells ends).0 in
+        let all = ap length adds.1.nodes ∙ length-append cut.nodes (replicate adds.0 None) in
+        omega arith
+
+    pub back_is : (new : CellList) → first_cells len new ≡ first_cells len mid → first_cells len new ≡ value
+    back_is new back =
+        let nodes = ap (λ (c : CellList). length c.nodes) is ∙ (length_front len cells ends).0 in
+        let hashes = ap (λ (c : CellList). length c.hashes) is ∙ (length_front len cells ends).1 in
+        back
+        ∙ same_cells (first_cells len mid) cut
+        (ap (take len) adds.1.nodes ∙ take_at cut.nodes (replicate adds.0 None) len nodes)
+        (ap (take len) adds.1.hashes ∙ take_at cut.hashes (replicate adds.0 None) len hashes)
+        ∙ is
+        ∙ view
+
+  pub truncate_is : (count : ℕ) (new : CellList) → count < len → first_cells count new ≡ first_cells count cells → first_cells count new ≡ first_cells count value
+  truncate_is count new less same =
+      same
+      ∙ same_cells (first_cells count cells) (first_cells count (first_cells len cells))
+      (sym (take-take count len cells.nodes (omega arith)))
+      (sym (take-take count len cells.hashes (omega arith)))
+      ∙ ap (first_cells count) view
+
+  pub truncate_none : (count : ℕ) → len ≤ count → value ≡ first_cells count value
+  truncate_none count le =
+      let nodes = seen_nodes in
+      let hashes = seen_hashes in
+      same_cells value (first_cells count value)
+      (sym (take_all count value.nodes (omega arith)))
+      (sym (take_all count value.hashes (omega arith)))
+
+-- cells that were added one after the other
+module _ (len : ℕ) (cells : CellList) (xs : List (Option Node)) (long : length xs ≡ len) (nodes : cells.nodes ≡ xs) (hashes : cells.hashes ≡ replicate (length cells.nodes) None) where
+  made_nodes : length cells.nodes ≡ len
+  made_nodes = ap length nodes ∙ long
+
+  made_hashes : length cells.hashes ≡ len
+  made_hashes = ap length hashes ∙ length-replicate {A = Option (List ℕ)} (length cells.nodes) None ∙ made_nodes
+
+  pub made_ends : EndsIn len cells
+  made_ends =
+      let one = made_nodes in
+      let other = made_hashes in
+      record { nodes = omega arith; hashes = omega arith; last = ap (λ k. k / 256) one }
+
+  pub made_is : first_cells len cells ≡ record { nodes = xs; hashes = replicate (length xs) None }
+  made_is =
+      let one = made_nodes in
+      let other = made_hashes in
+      same_cells (first_cells len cells) (record { nodes = xs; hashes = replicate (length xs) None })
+      (take_all len cells.nodes (omega arith) ∙ nodes)
+      (take_all len cells.hashes (omega arith) ∙ hashes ∙ ap (λ (ys : List (Option Node)). replicate (length ys) None) nodes)

@@ -203,7 +203,7 @@ module _ (rs : List CellList) (tops : CellList) (parts : AreParts rs tops) (x : 
 -- ---- the last row, and cells that are added behind it
 
 module _ (rs : List CellList) (tops : CellList) (parts : AreParts rs tops) where
-  count_of : length rs ≡ suc (length tops.nodes)
+  pub count_of : length rs ≡ suc (length tops.nodes)
   count_of = sym (length-map rs (λ (s : CellList). s.nodes)) ∙ chunk_count (nodes_of rs) tops.nodes parts.nodes
 
   count_of_hashes : length rs ≡ suc (length tops.hashes)
