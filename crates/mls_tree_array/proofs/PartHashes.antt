@@ -313,3 +313,9 @@ module _ (h b r : ℕ) (xs : List (Option Node)) (hs : List (Option (List ℕ)))
 
   pub left_fits : 2 * b + nodes_in (h - 1) ≤ length xs
   left_fits = omega (arith, fits_suc, nodes_in-suc (h - 1))
+
+  -- as many as before, once a side was filled
+  pub part_long : length (splice b lower hs) ≡ length xs
+  part_long =
+      let many : length lower ≡ nodes_in (h - 1) = length-hashes_of b (term_at (h - 1) b xs) ∙ size-term_of (h - 1) (part (h - 1) b xs) in
+      length_splice b lower hs (omega (arith, left_fits, many)) ∙ long
