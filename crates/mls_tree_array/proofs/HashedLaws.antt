@@ -1,5 +1,5 @@
 -- The tree hashes of all subtrees, by the root and its sides.
-use Rattle.std.proofs.Common.{◌≡◌, ℕ, zero, suc, ◌+◌, ◌-◌, ◌*◌, ◌<◌, ◌≤◌, List, ◌∷◌, ◌++◌, length, get_or, take, drop, Option, Some, None, refl, sym, ◌∙◌, ap, subst, arith}
+use Rattle.std.proofs.Common.{◌≡◌, ℕ, suc, ◌+◌, ◌*◌, ◌<◌, ◌≤◌, List, ◌∷◌, ◌++◌, length, get_or, take, drop, Option, Some, None, refl, sym, ◌∙◌, ap, arith}
 use Rattle.std.proofs.lemmas.List.{get_or_at, get_or-take, get_or-drop, take_at, take_all, take-take, drop-take, drop-drop}
 use Rattle.mls_leaf.specs.Parent.{Parent}
 use Rattle.mls_tree_model.specs.Term.{Term, Leaf, Branch, width, size}

@@ -1,9 +1,8 @@
 -- Tree hashes of a subtree, read and filled in among those of a whole tree. The root's number is r, as code has it.
 use Rattle.std.proofs.Common.{◌≡◌, ℕ, zero, suc, ◌+◌, ◌-◌, ◌*◌, ◌^◌, ◌<◌, ◌≤◌, true, List, [], ◌∷◌, ◌++◌, length, get_or, take, drop, set, Option, Some, None, refl, sym, ◌∙◌, ap, subst, arith}
-use Rattle.std.proofs.lemmas.List.{take-take, drop-take, drop-drop, drop_more, get_or-take, get_or-drop, get_or_default}
+use Rattle.std.proofs.lemmas.List.{take-take, drop-take, drop-drop, get_or-take, get_or-drop, get_or_default}
 use Rattle.std.proofs.lemmas.Bool.{true≢false, and_parts}
 use Rattle.mls_leaf.specs.Parent.{Parent}
-use Rattle.mls_leaf.specs.declared.leaf.LeafNode.{LeafNode}
 use Rattle.mls_leaf.specs.declared.node.Node.{Node}
 use Rattle.mls_treemath.specs.Paths.{nodes_in}
 use Rattle.mls_treemath.proofs.Sizes.{nodes_in-suc, nodes_in_pos}
@@ -11,7 +10,7 @@ use Rattle.mls_tree_model.specs.Term.{Term, Leaf, Branch, width, size, is_perfec
 use Rattle.mls_tree_model.specs.Inputs.{leaf_hash, branch_hash}
 use Rattle.mls_tree_model.specs.Hashes.{tree_hash}
 use Rattle.mls_tree_model.specs.Arrays.{leaf_in, parent_in, term_of}
-use Rattle.mls_tree_model.proofs.Equations.{size_leaf, size_branch, tree_hash_leaf, tree_hash_branch}
+use Rattle.mls_tree_model.proofs.Equations.{size_branch, tree_hash_leaf, tree_hash_branch}
 use Rattle.mls_tree_model.proofs.ShapeLaws.{size-width}
 use Rattle.mls_tree_model.proofs.ArrayLaws.{nodes_in-leaves, size-perfect, term_of-zero, term_of-suc, perfect-term_of, size-term_of, width-term_of}
 use Rattle.mls_tree_hash.specs.Counter.{counted}

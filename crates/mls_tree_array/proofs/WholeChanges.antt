@@ -1,7 +1,6 @@
 -- The cells of a whole tree after the changes that edit it at a leaf.
 use Rattle.std.proofs.Common.{◌≡◌, ℕ, ◌+◌, ◌*◌, ◌<◌, true, List, length, All, sym, ◌∙◌, ap, arith}
 use Rattle.std.proofs.lemmas.List.Elements.{All-same}
-use Rattle.mls_leaf.specs.declared.node.Node.{Node}
 use Rattle.mls_tree_cells.specs.declared.changes.Change.{Change}
 use Rattle.mls_tree_cells.specs.Cells.{CellList, Puts, put_nodes, drop_hashes_at}
 use Rattle.mls_treemath.specs.Paths.{nodes_in}
