@@ -61,10 +61,10 @@ module _ (cs : List ChunkRow) (tops : CellList) (p : PartList) (view : seen cs t
         ∙ ap (λ (q : PartList). get_or q.cells.hashes x d) view
 
     pub own_if_open : IsOpen p.shares x → c.shared ≡ false
-    own_if_open open =
+    own_if_open own =
         share_at cs (x / 256) c (chunk_in low) is
         ∙ ap (λ (q : PartList). get_or q.shares (x / 256) true) view
-        ∙ open low
+        ∙ own low
 
     -- it is edited to d
     module _ (d : ChunkRow) where

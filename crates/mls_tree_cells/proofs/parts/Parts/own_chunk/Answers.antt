@@ -43,4 +43,4 @@ returns-else-x-lt-TOP-clause-own c = λ low. let high = c.if-x-lt-TOP.false in a
 
 pub returns-else-x-lt-TOP-clause-others : goal.returns-else-x-lt-TOP-clause-others
 returns-else-x-lt-TOP-clause-others c =
-    subst (λ (p : PartList). StaysOpen p.shares (shares_of c.self.inside.chunks.items)) c.self.view_is (λ y open. open)
+    subst (λ (p : PartList). StaysOpen p.shares (shares_of c.self.inside.chunks.items)) c.self.view_is (λ y own. own)
