@@ -1,11 +1,11 @@
 -- Laws of lists of changes, and of the first cells.
-use Rattle.std.proofs.Common.{◌≡◌, ℕ, zero, suc, ◌+◌, ◌/◌, ◌<◌, ◌≤◌, List, [], ◌∷◌, ◌++◌, length, get_or, take, set, replicate, Option, None, refl, sym, ◌∙◌, ap, subst, arith, length-append, length-set, length-take}
-use Rattle.std.proofs.lemmas.List.{get_or-take, take_all, take_at, take-take, length-replicate}
+use Rattle.std.proofs.Common.{◌≡◌, ℕ, zero, suc, ◌+◌, ◌/◌, ◌<◌, ◌≤◌, List, [], ◌∷◌, ◌++◌, length, get_or, take, set, replicate, Option, None, refl, sym, ◌∙◌, ap, subst, arith, append-nil, append_assoc, length-append, length-set, length-take}
+use Rattle.std.proofs.lemmas.List.{get_or-take, take_all, take_at, take-take, length-replicate, replicate_more}
 use Rattle.std.specs.List.{All}
 use Rattle.mls_leaf.specs.declared.node.Node.{Node}
 use Rattle.mls_tree_cells.specs.Cells.{CellList, Puts, put_nodes, drop_hashes_at}
 use Rattle.mls_tree_cells.specs.Rows.{AddsBlanks, AddsCell, first_cells}
-use Rattle.mls_tree_cells.specs.Parts.{EndsIn}
+use Rattle.mls_tree_cells.specs.Parts.{EndsIn, PartList}
 use Rattle.mls_tree_cells.specs.declared.changes.Change.{Change}
 use Rattle.mls_tree_cells.proofs.PartLaws.{same_cells}
 
@@ -206,3 +206,41 @@ module _ (len : ℕ) (cells : CellList) (xs : List (Option Node)) (long : length
       same_cells (first_cells len cells) (record { nodes = xs; hashes = replicate (length xs) None })
       (take_all len cells.nodes (omega arith) ∙ nodes)
       (take_all len cells.hashes (omega arith) ∙ hashes ∙ ap (λ (ys : List (Option Node)). replicate (length ys) None) nodes)
+
+-- ---- cells that are added one at a time
+
+pub no_blanks : (p : PartList) → AddsBlanks 0 p.cells p.cells
+no_blanks p =
+    record { nodes = sym (append-nil p.cells.nodes); hashes = sym (append-nil p.cells.hashes) }
+
+pub one_blank : (n : ℕ) (first old new : CellList) → AddsBlanks n first old → (slot : Option Node) → slot ≡ None → AddsCell slot old new → AddsBlanks (n + 1) first new
+one_blank n first old new before slot blank adds =
+    record {
+      nodes =
+          adds.nodes
+          ∙ ap (λ (s : Option Node). old.nodes ++ s ∷ []) blank
+          ∙ ap (λ ns. ns ++ None ∷ []) before.nodes
+          ∙ append_assoc first.nodes (replicate n None) (None ∷ [])
+          ∙ ap (λ ns. first.nodes ++ ns) (replicate_more n None);
+      hashes =
+          adds.hashes
+          ∙ ap (λ hs. hs ++ None ∷ []) before.hashes
+          ∙ append_assoc first.hashes (replicate n None) (None ∷ [])
+          ∙ ap (λ hs. first.hashes ++ hs) (replicate_more n None);
+    }
+
+pub blanks_stay : (n : ℕ) (first old new : CellList) → AddsBlanks n first old → new ≡ old → AddsBlanks n first new
+blanks_stay n first old new before same = subst (AddsBlanks n first) (sym same) before
+
+pub none_made : (cells : CellList) → cells ≡ record { nodes = []; hashes = [] } → cells.hashes ≡ replicate (length cells.nodes) None
+none_made cells none =
+    ap (λ (c : CellList). c.hashes) none
+    ∙ sym (ap (λ (c : CellList). replicate {A = Option (List ℕ)} (length c.nodes) None) none)
+
+pub more_made : (old new : CellList) (slot : Option Node) → AddsCell slot old new → old.hashes ≡ replicate (length old.nodes) None → new.hashes ≡ replicate (length new.nodes) None
+more_made old new slot adds before =
+    let size : length new.nodes ≡ length old.nodes + 1 = ap length adds.nodes ∙ length-append old.nodes (slot ∷ []) in
+    adds.hashes
+    ∙ ap (λ hs. hs ++ None ∷ []) before
+    ∙ replicate_more (length old.nodes) None
+    ∙ ap (λ n. replicate {A = Option (List ℕ)} n None) (sym size)

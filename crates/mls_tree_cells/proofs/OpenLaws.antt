@@ -1,16 +1,20 @@
 -- What chunks and tops say of the cells that they are seen as, and edits of them.
-use Rattle.std.proofs.Common.{◌≡◌, ℕ, suc, ◌+◌, ◌*◌, ◌/◌, ◌%◌, ◌<◌, ◌≤◌, Bool, true, false, List, [], ◌∷◌, ◌++◌, map, length, get_or, take, set, Option, None, refl, sym, ◌∙◌, ap, subst, arith}
-use Rattle.std.proofs.lemmas.List.{map-append, take-map}
+use Rattle.std.proofs.Common.{◌≡◌, ℕ, suc, ◌+◌, ◌*◌, ◌/◌, ◌%◌, ◌<◌, ◌≤◌, Bool, true, false, List, [], ◌∷◌, ◌++◌, map, length, get_or, take, set, Option, None, Result, Ok, Err, OnOk, OnErr, refl, sym, ◌∙◌, ap, subst, arith}
+use Rattle.std.proofs.lemmas.List.{get_or_default, map-append, take-map}
 use Rattle.mls_leaf.specs.declared.node.Node.{Node}
 use Rattle.mls_tree_cells.specs.Cells.{CellList}
 use Rattle.mls_tree_cells.specs.Chunks.{ChunkRow}
 use Rattle.mls_tree_cells.specs.Rows.{AddsCell, SetsSlot, first_cells}
 use Rattle.mls_tree_cells.specs.Parts.{AreParts, EndsIn, IsOpen, PartList, StaysOpen, all_cells, rows_of, shares_of}
-use Rattle.mls_tree_cells.proofs.PartLaws.{no_cells, row_at, share_at, rows_set, shares_set, row_count, row_within, tops_within, node_below, node_above, hash_below, hash_above, put_below, parts_put_below, keep_below, parts_keep_below, put_above, parts_put_above, keep_above, parts_keep_above, count_of, last_row, push_below, parts_push_below, push_above, parts_push_above, parts_front, front_same, front_ends, cut_row, cut_below, parts_cut}
+use Rattle.mls_tree_cells.proofs.PartLaws.{no_cells, rows_stay, row_at, share_at, rows_set, shares_set, row_count, row_within, tops_within, node_below, node_above, hash_below, hash_above, put_below, parts_put_below, keep_below, parts_keep_below, put_above, parts_put_above, keep_above, parts_keep_above, count_of, last_row, push_below, parts_push_below, push_above, parts_push_above, parts_front, front_same, front_ends, cut_row, cut_below, parts_cut}
 
 -- what chunks and tops are seen as
 abbrev pub seen : List ChunkRow → CellList → PartList
 seen cs tops = record { cells = all_cells (rows_of cs) tops; shares = shares_of cs }
+
+-- two reads of one chunk
+pub same_read : (cs : List ChunkRow) (k : ℕ) (c d : ChunkRow) → k < length cs → c ≡ get_or cs k c → d ≡ get_or cs k d → c ≡ d
+same_read cs k c d lt is same = is ∙ get_or_default cs k c d lt ∙ sym same
 
 -- ---- cell x
 
@@ -57,10 +61,10 @@ module _ (cs : List ChunkRow) (tops : CellList) (p : PartList) (view : seen cs t
         ∙ ap (λ (q : PartList). get_or q.cells.hashes x d) view
 
     pub own_if_open : IsOpen p.shares x → c.shared ≡ false
-    own_if_open open =
+    own_if_open own =
         share_at cs (x / 256) c (chunk_in low) is
         ∙ ap (λ (q : PartList). get_or q.shares (x / 256) true) view
-        ∙ open low
+        ∙ own low
 
     -- it is edited to d
     module _ (d : ChunkRow) where
@@ -147,6 +151,22 @@ module _ (cs : List ChunkRow) (tops : CellList) (p : PartList) (view : seen cs t
         (subst (λ (r : CellList). length r.nodes < 255) last_is few)
         (subst (λ (r : CellList). AddsCell slot r d.row) last_is adds))
 
+    -- whatever the answer is
+    pub push_any_parts : {T E : Type 0} (d : ChunkRow) → length c.row.nodes < 255 → (result : Result T E) → OnOk result (AddsCell slot c.row d.row) → OnErr result (d.row ≡ c.row) → AreParts (rows_of (set cs k d)) tops
+    push_any_parts d few (Ok u) ok err = push_row_parts d few ok
+    push_any_parts d few (Err e) ok err =
+        subst (λ (rs : List CellList). AreParts rs tops) (sym (rows_stay cs k c d (omega arith) is err)) parts
+
+    pub push_ok : {T E : Type 0} (d : ChunkRow) (result : Result T E) → OnOk result (AddsCell slot c.row d.row) → OnOk result (AddsCell slot p.cells (all_cells (rows_of (set cs k d)) tops))
+    push_ok d (Ok u) ok = push_row d ok
+    push_ok d (Err e) ok = tt
+
+    pub push_err : {T E : Type 0} (d : ChunkRow) (result : Result T E) → OnErr result (d.row ≡ c.row) → OnErr result (all_cells (rows_of (set cs k d)) tops ≡ p.cells)
+    push_err d (Ok u) err = tt
+    push_err d (Err e) err =
+        ap (λ (rs : List CellList). all_cells rs tops) (rows_stay cs k c d (omega arith) is err)
+        ∙ ap (λ (q : PartList). q.cells) view
+
     pub push_top : (r : CellList) (d : ChunkRow) → d.row ≡ no_cells → AddsCell slot tops r → AddsCell slot p.cells (all_cells (rows_of (cs ++ d ∷ [])) r)
     push_top r d none adds =
         subst (λ (rs : List CellList). AddsCell slot p.cells (all_cells rs r)) (sym (rows_more d none))
@@ -210,3 +230,22 @@ module _ (cs : List ChunkRow) (tops : CellList) (p : PartList) (view : seen cs t
       cut_parts =
           subst (λ (rs : List CellList). AreParts rs tops) (sym (rows_set cs (x / 256) d))
           (parts_cut (rows_of cs) tops parts x ends_here d.row cut_is)
+
+    module _ (c d : ChunkRow) (is : c ≡ get_or cs (x / 256) c) where
+      stays : d.row ≡ c.row → rows_of (set cs (x / 256) d) ≡ rows_of cs
+      stays same =
+          let last = cut_last_is in
+          rows_stay cs (x / 256) c d (omega arith) is same
+
+      pub cut_any_parts : {T E : Type 0} (result : Result T E) → OnOk result (d.row ≡ first_cells (x % 256) c.row) → OnErr result (d.row ≡ c.row) → AreParts (rows_of (set cs (x / 256) d)) tops
+      cut_any_parts (Ok u) ok err = cut_parts c d is ok
+      cut_any_parts (Err e) ok err = subst (λ (rs : List CellList). AreParts rs tops) (sym (stays err)) parts
+
+      pub cut_ok : {T E : Type 0} (result : Result T E) → OnOk result (d.row ≡ first_cells (x % 256) c.row) → OnOk result (all_cells (rows_of (set cs (x / 256) d)) tops ≡ first_cells x p.cells)
+      cut_ok (Ok u) ok = cut_same c d is ok
+      cut_ok (Err e) ok = tt
+
+      pub cut_err : {T E : Type 0} (result : Result T E) → OnErr result (d.row ≡ c.row) → OnErr result (all_cells (rows_of (set cs (x / 256) d)) tops ≡ p.cells)
+      cut_err (Ok u) err = tt
+      cut_err (Err e) err =
+          ap (λ (rs : List CellList). all_cells rs tops) (stays err) ∙ ap (λ (q : PartList). q.cells) view

@@ -1,12 +1,13 @@
 -- Laws of rows of cells with tops between them.
-use Rattle.std.proofs.Common.{◌≡◌, ℕ, zero, suc, ◌+◌, ◌*◌, ◌/◌, ◌%◌, ◌<◌, ◌≤◌, Bool, true, List, [], ◌∷◌, ◌++◌, map, length, get_or, take, set, Option, Some, None, refl, sym, ◌∙◌, ap, subst, arith, inl, inr, length-append, length-set, length-take}
-use Rattle.std.proofs.lemmas.Bool.{cases_lt}
-use Rattle.std.proofs.lemmas.List.{length-map, get_or-map, map-set, map-append, take-map, set-get_or}
+use Rattle.std.proofs.Common.{◌≡◌, ℕ, zero, suc, ◌+◌, ◌*◌, ◌/◌, ◌%◌, ◌<◌, ◌≤◌, Bool, true, false, List, [], ◌∷◌, ◌++◌, map, length, get_or, take, set, Option, Some, None, refl, sym, ◌∙◌, ap, subst, arith, inl, inr, length-append, length-set, length-take}
+use Rattle.std.proofs.lemmas.Bool.{cases_lt, cases_eq}
+use Rattle.std.proofs.lemmas.Grind.{get_or-set_at}
+use Rattle.std.proofs.lemmas.List.{length-map, get_or-set_other, get_or-map, map-set, map-append, take-map, set-get_or}
 use Rattle.mls_leaf.specs.declared.node.Node.{Node}
 use Rattle.mls_tree_cells.specs.Cells.{CellList}
 use Rattle.mls_tree_cells.specs.Chunks.{ChunkRow}
 use Rattle.mls_tree_cells.specs.Rows.{AddsCell, SetsSlot, first_cells}
-use Rattle.mls_tree_cells.specs.Parts.{interleave, AreSpread, AreParts, EndsIn, all_cells, nodes_of, hashes_of, rows_of, shares_of}
+use Rattle.mls_tree_cells.specs.Parts.{interleave, AreSpread, AreParts, EndsIn, StaysOpen, all_cells, nodes_of, hashes_of, rows_of, shares_of}
 use Rattle.mls_tree_cells.proofs.SpreadLaws.{chunk_count, full_at, last_few, length_of, chunk_within, top_within, get_chunk, get_upper, set_chunk, set_upper, spread_set, spread_top, spread_last, push_last, push_top, spread_more, spread_take, front_chunks, take_front, length_front, front_within, ends_last, cut_last}
 
 -- a row with no cell
@@ -45,6 +46,22 @@ shares_stay cs k c d lt is same =
     shares_set cs k d
     ∙ ap (set (shares_of cs) k) (same ∙ share_at cs k c lt is)
     ∙ set-get_or (shares_of cs) k true
+
+-- a chunk that isn't shared takes another's place
+pub own_here : (cs : List ChunkRow) (k : ℕ) (d : ChunkRow) → k < length cs → d.shared ≡ false → get_or (shares_of (set cs k d)) k true ≡ false
+own_here cs k d lt own =
+    let count = length-map cs (λ (e : ChunkRow). e.shared) in
+    ap (λ bs. get_or bs k true) (shares_set cs k d) ∙ get_or-set_at (shares_of cs) k k d.shared true refl (omega arith) ∙ own
+
+pub stays_open : (cs : List ChunkRow) (k : ℕ) (d : ChunkRow) → k < length cs → d.shared ≡ false → StaysOpen (shares_of cs) (shares_of (set cs k d))
+stays_open cs k d lt own y before low =
+    elim (cases_eq (y / 256) k) [
+      | inl same ↦ ap (λ n. get_or (shares_of (set cs k d)) n true) same ∙ own_here cs k d lt own
+      | inr other ↦
+          ap (λ bs. get_or bs (y / 256) true) (shares_set cs k d)
+          ∙ get_or-set_other (shares_of cs) k (y / 256) d.shared true other
+          ∙ before low
+    ]
 
 pub row_count : (cs : List ChunkRow) → length (rows_of cs) ≡ length cs
 row_count cs = length-map cs (λ (d : ChunkRow). d.row)

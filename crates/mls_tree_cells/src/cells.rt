@@ -93,7 +93,7 @@ impl Cells {
         ensures ok { OnOk result (Puts changes.items self.old self.new) }
         ensures err { OnErr result (self.new ≡ self.old) }
     {
-        self.parts.open_all(&changes)?;
+        self.parts.own_chunks(&changes)?;
         self.parts.put_all(changes);
         Ok(())
     }

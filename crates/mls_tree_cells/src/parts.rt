@@ -91,11 +91,11 @@ impl Parts {
     }
 
     /// Copies the chunk of cell x where it is shared. Without memory for the copy all stays.
-    fn open(&mut self, x: usize) -> Result<(), AllocError>
+    fn own_chunk(&mut self, x: usize) -> Result<(), AllocError>
         requires { x < length self.old.cells.nodes }
         ensures cells { self.new.cells ≡ self.old.cells }
-        ensures open { OnOk result (IsOpen self.new.shares x) }
-        ensures others { StaysOpen self.old.shares self.new.shares }
+        ensures own { OnOk result (IsOpen self.new.shares x) }
+        ensures others { OnOk result (StaysOpen self.old.shares self.new.shares) }
     {
         if x % CHUNK_SIZE < TOP {
             self.chunks[x / CHUNK_SIZE].make_own()?;
@@ -104,13 +104,13 @@ impl Parts {
     }
 
     /// Copies the shared chunks that changes stand in. Without memory for one the cells stay.
-    pub(crate) fn open_all(&mut self, changes: &[Change]) -> Result<(), AllocError>
+    pub(crate) fn own_chunks(&mut self, changes: &[Change]) -> Result<(), AllocError>
         requires { All (λ c. c.place < length self.old.cells.nodes) changes.now }
         ensures cells { self.new.cells ≡ self.old.cells }
-        ensures open { OnOk result (All (λ c. IsOpen self.new.shares c.place) changes.now) }
+        ensures own { OnOk result (All (λ c. IsOpen self.new.shares c.place) changes.now) }
     {
         for change in changes {
-            self.open(change.place as usize)?;
+            self.own_chunk(change.place as usize)?;
         }
         Ok(())
     }
@@ -118,7 +118,7 @@ impl Parts {
     /// Puts a slot into cell x, which becomes cold.
     fn put(&mut self, x: usize, slot: Slot)
         requires within { x < length self.old.cells.nodes }
-        requires open { IsOpen self.old.shares x }
+        requires own { IsOpen self.old.shares x }
         ensures cells { SetsSlot x slot self.old.cells self.new.cells }
         ensures shares { self.new.shares ≡ self.old.shares }
     {
@@ -133,7 +133,7 @@ impl Parts {
     /// Puts slots in their places, which become cold.
     pub(crate) fn put_all(&mut self, changes: Vec<Change>)
         requires within { All (λ c. c.place < length self.old.cells.nodes) changes.items }
-        requires open { All (λ c. IsOpen self.old.shares c.place) changes.items }
+        requires own { All (λ c. IsOpen self.old.shares c.place) changes.items }
         ensures { Puts changes.items self.old.cells self.new.cells }
     {
         for change in changes {
@@ -199,8 +199,7 @@ impl Parts {
         ensures ok { OnOk result (self.new.cells ≡ first_cells count self.old.cells) }
         ensures err { OnErr result (self.new.cells ≡ self.old.cells) }
     {
-        let last = self.chunks.len() - 1;
-        self.chunks[last].truncate(count % CHUNK_SIZE)
+        self.chunks[count / CHUNK_SIZE].truncate(count % CHUNK_SIZE)
     }
 
     /// Lets later copies share the chunks whose hashes are all kept.

@@ -11,5 +11,5 @@ invariant-loop-change l = record {
   nodes : put_nodes (into_iter_items l.change-iterator) l.self.cells.nodes ≡ put_nodes l.fn.changes.items l.fn.self.cells.nodes;
   hashes : drop_hashes_at (into_iter_items l.change-iterator) l.self.cells.hashes ≡ drop_hashes_at l.fn.changes.items l.fn.self.cells.hashes;
   within : All (λ (c : Change). c.place < length l.self.cells.nodes) (into_iter_items l.change-iterator);
-  open : All (λ (c : Change). IsOpen l.self.shares c.place) (into_iter_items l.change-iterator);
+  own : All (λ (c : Change). IsOpen l.self.shares c.place) (into_iter_items l.change-iterator);
 }
