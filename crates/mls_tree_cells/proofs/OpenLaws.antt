@@ -12,6 +12,11 @@ use Rattle.mls_tree_cells.proofs.PartLaws.{no_cells, rows_stay, row_at, share_at
 abbrev pub seen : List ChunkRow → CellList → PartList
 seen cs tops = record { cells = all_cells (rows_of cs) tops; shares = shares_of cs }
 
+-- what holds, holds on an error
+pub on_err : {T E : Type 0} {P : Type 0} (result : Result T E) → P → OnErr result P
+on_err (Ok u) here = tt
+on_err (Err e) here = here
+
 -- two reads of one chunk
 pub same_read : (cs : List ChunkRow) (k : ℕ) (c d : ChunkRow) → k < length cs → c ≡ get_or cs k c → d ≡ get_or cs k d → c ≡ d
 same_read cs k c d lt is same = is ∙ get_or_default cs k c d lt ∙ sym same

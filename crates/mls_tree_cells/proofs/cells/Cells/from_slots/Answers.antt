@@ -7,7 +7,7 @@ use Rattle.mls_tree_cells.proofs.cells.Cells.from_slots.Goals as goal
 
 pub loop-slot-init : goal.loop-slot-init
 loop-slot-init c =
-    let items = c.into_iter-slot-iterator.ensures.into_iter_gives in
+    let items = c.into_iter-slot-iterator.ensures.into_iter_gives.0 in
     record {
       nodes = ap (λ (r : CellList). r.nodes ++ into_iter_items c.into_iter-slot-iterator.result) c.in_ok-parts.ensures ∙ items;
       hashes = none_made c.in_ok-parts.parts.cells c.in_ok-parts.ensures;

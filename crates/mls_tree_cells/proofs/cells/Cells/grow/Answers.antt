@@ -2,6 +2,7 @@ use Rattle.std.proofs.Common.{◌≡◌, ◌+◌, ◌<◌, ◌≤◌, List, [], 
 use Rattle.mls_tree_cells.specs.Rows.{AddsBlanks, first_cells}
 use Rattle.mls_tree_cells.specs.Parts.{EndsIn}
 use Rattle.mls_tree_cells.proofs.CellLaws.{back_is, grow_ends, grow_is, mid_within}
+use Rattle.mls_tree_cells.proofs.OpenLaws.{on_err}
 use Rattle.mls_tree_cells.proofs.cells.Cells.grow.Goals as goal
 
 pub cut-requires : goal.cut-requires
@@ -11,7 +12,8 @@ pub invariant_of-self : goal.invariant_of-self
 invariant_of-self c = subst (EndsIn c.self.inside.len) (sym c.in_err-cut.ensures.err) c.self.invariant
 
 pub returns-in_err-cut-clause-err : goal.returns-in_err-cut-clause-err
-returns-in_err-cut-clause-err c = ap (first_cells c.self.inside.len) c.in_err-cut.ensures.err ∙ c.self.view_is
+returns-in_err-cut-clause-err c =
+    on_err c.from_residual.result (ap (first_cells c.self.inside.len) c.in_err-cut.ensures.err ∙ c.self.view_is)
 
 pub drop_behind-requires : goal.drop_behind-requires
 drop_behind-requires c = mid_within c.self.inside.len c.self.inside.parts.cells c.args.self.now c.self.view_is c.self.invariant c.cut.new.self.cells c.push_blanks.new.self.cells c.in_ok-cut.ensures.ok c.in-Err.ensures.err

@@ -6,6 +6,7 @@ use Rattle.mls_tree_cells.specs.Parts.{EndsIn, IsOpen}
 use Rattle.mls_tree_cells.specs.Rows.{first_cells}
 use Rattle.mls_tree_cells.specs.declared.changes.Change.{Change}
 use Rattle.mls_tree_cells.proofs.CellLaws.{all_within, puts_ends, put_is}
+use Rattle.mls_tree_cells.proofs.OpenLaws.{on_err}
 use Rattle.mls_tree_cells.proofs.cells.Cells.put.Goals as goal
 
 pub own_chunks-requires : goal.own_chunks-requires
@@ -29,7 +30,8 @@ invariant_of-self-2 c =
     (subst (EndsIn c.self.inside.len) (sym c.own_chunks.ensures.cells) c.self.invariant)
 
 pub returns-in_err-own_chunks-clause-err : goal.returns-in_err-own_chunks-clause-err
-returns-in_err-own_chunks-clause-err c = ap (first_cells c.self.inside.len) c.own_chunks.ensures.cells ∙ c.self.view_is
+returns-in_err-own_chunks-clause-err c =
+    on_err c.from_residual.result (ap (first_cells c.self.inside.len) c.own_chunks.ensures.cells ∙ c.self.view_is)
 
 pub returns-clause-ok : goal.returns-clause-ok
 returns-clause-ok c =

@@ -42,5 +42,4 @@ pub returns-else-x-lt-TOP-clause-own : goal.returns-else-x-lt-TOP-clause-own
 returns-else-x-lt-TOP-clause-own c = λ low. let high = c.if-x-lt-TOP.false in absurd (omega arith)
 
 pub returns-else-x-lt-TOP-clause-others : goal.returns-else-x-lt-TOP-clause-others
-returns-else-x-lt-TOP-clause-others c =
-    subst (λ (p : PartList). StaysOpen p.shares (shares_of c.self.inside.chunks.items)) c.self.view_is (λ y own. own)
+returns-else-x-lt-TOP-clause-others c = λ y own. own

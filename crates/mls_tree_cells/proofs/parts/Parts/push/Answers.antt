@@ -4,7 +4,7 @@ use Rattle.mls_tree_cells.specs.Cells.{CellList}
 use Rattle.mls_tree_cells.specs.Chunks.{ChunkRow}
 use Rattle.mls_tree_cells.specs.Rows.{AddsCell}
 use Rattle.mls_tree_cells.specs.Parts.{AreParts, PartList, all_cells, rows_of}
-use Rattle.mls_tree_cells.proofs.OpenLaws.{same_read, some_chunk, push_any_parts, push_ok, push_err, push_top, push_top_parts}
+use Rattle.mls_tree_cells.proofs.OpenLaws.{on_err, same_read, some_chunk, push_any_parts, push_ok, push_err, push_top, push_top_parts}
 use Rattle.mls_tree_cells.proofs.parts.Parts.push.Goals as goal
 
 pub overflow_sub-last : goal.overflow_sub-last
@@ -60,8 +60,9 @@ invariant_of-self-in_err-reserve c =
 
 pub returns-in_err-reserve-clause-err : goal.returns-in_err-reserve-clause-err
 returns-in_err-reserve-clause-err c =
-    ap (λ (ds : List ChunkRow). all_cells (rows_of ds) c.self.inside.tops) c.reserve.ensures.items
-    ∙ ap (λ (p : PartList). p.cells) c.self.view_is
+    on_err c.from_residual-in_err-reserve.result
+    (ap (λ (ds : List ChunkRow). all_cells (rows_of ds) c.self.inside.tops) c.reserve.ensures.items
+    ∙ ap (λ (p : PartList). p.cells) c.self.view_is)
 
 pub invariant_of-self-in_err-push : goal.invariant_of-self-in_err-push
 invariant_of-self-in_err-push c =
@@ -70,9 +71,10 @@ invariant_of-self-in_err-push c =
 
 pub returns-in_err-push-clause-err : goal.returns-in_err-push-clause-err
 returns-in_err-push-clause-err c =
-    ap (λ (ds : List ChunkRow). all_cells (rows_of ds) c.push-2.new.self) c.reserve.ensures.items
+    on_err c.from_residual-in_err-push.result
+    (ap (λ (ds : List ChunkRow). all_cells (rows_of ds) c.push-2.new.self) c.reserve.ensures.items
     ∙ ap (all_cells (rows_of c.self.inside.chunks.items)) c.in_err-push.ensures.err
-    ∙ ap (λ (p : PartList). p.cells) c.self.view_is
+    ∙ ap (λ (p : PartList). p.cells) c.self.view_is)
 
 pub invariant_of-self-2 : goal.invariant_of-self-2
 invariant_of-self-2 c =

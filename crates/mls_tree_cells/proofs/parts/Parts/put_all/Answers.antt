@@ -10,7 +10,7 @@ use Rattle.mls_tree_cells.proofs.parts.Parts.put_all.Goals as goal
 
 pub loop-change-init : goal.loop-change-init
 loop-change-init c =
-    let items = c.into_iter-change-iterator.ensures.into_iter_gives in
+    let items = c.into_iter-change-iterator.ensures.into_iter_gives.0 in
     record {
       nodes = ap (λ cs. put_nodes cs c.args.self.now.cells.nodes) items;
       hashes = ap (λ cs. drop_hashes_at cs c.args.self.now.cells.hashes) items;
