@@ -286,7 +286,7 @@ fn call_tree(rt: &impl Print, alloc: Global, member: &Member<Glass>, number: u32
 }
 
 /// A member is saved and loaded, and what was loaded adds one more, where the tree has a leaf for it.
-fn call_saved(rt: &impl Print, alloc: Global, member: &Member<Glass>, next: u32) -> Result<()> {
+fn save_and_load(rt: &impl Print, alloc: Global, member: &Member<Glass>, next: u32) -> Result<()> {
     println!(rt; "before: saving")?;
     let saved = member.save()?;
     println!(rt; "save: {} bytes", saved.len())?;
@@ -311,7 +311,7 @@ fn call(rt: &impl Print, alloc: Global, number: u32, lines: &[&str; LINES]) -> R
     call_conversation(rt, alloc, &member, &[lines[2], lines[3], lines[4]])?;
     let next = number.saturating_add(1);
     call_tree(rt, alloc, &member, next)?;
-    call_saved(rt, alloc, &member, next)?;
+    save_and_load(rt, alloc, &member, next)?;
     call_proposals(rt, alloc, &mut member, &lines[5..])
 }
 

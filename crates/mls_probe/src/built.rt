@@ -63,7 +63,8 @@ fn add_with_path(alloc: Global, tree: &mut PublicTree, number: u32) -> Result<()
     Ok(())
 }
 
-/// The tree of so many members, each of which but the first has merged a path. The first is as a joiner in a blank leaf.
+/// The tree of so many members, each of which but the first has merged a path. The first is as a joiner in a blank
+/// leaf.
 fn built_tree(alloc: Global, members: u32) -> Result<PublicTree> {
     let (first, _key) = offered_leaf(alloc, 0)?;
     let mut tree = PublicTree::single(alloc, first.clone()?)?;
@@ -84,7 +85,7 @@ fn saved_creator(alloc: Global) -> Result<SavedMember> {
 }
 
 /// What member 0 is saved as whose group has this tree. It holds the key of its leaf alone.
-fn saved_with(alloc: Global, tree: &mut PublicTree) -> Result<Vec<u8>> {
+fn save_with_tree(alloc: Global, tree: &mut PublicTree) -> Result<Vec<u8>> {
     let tree_hash = tree.tree_hash();
     let mut saved = saved_creator(alloc)?;
     saved.state.context.tree_hash = Bytes::from_slice(alloc, &tree_hash)?;
@@ -103,7 +104,7 @@ pub(crate) fn load_member(alloc: Global, saved: &[u8]) -> Result<Box<Member<Glas
 /// Member 0 of a group of so many members.
 pub(crate) fn build_group(alloc: Global, members: u32) -> Result<Box<Member<Glass>>> {
     let mut tree = built_tree(alloc, members)?;
-    let saved = saved_with(alloc, &mut tree);
+    let saved = save_with_tree(alloc, &mut tree);
     drop(tree);
     load_member(alloc, &saved?)
 }

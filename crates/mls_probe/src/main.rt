@@ -25,12 +25,12 @@ mod worlds;
 
 use anyhow::{Result, bail};
 use bench::serve_input;
-use scenario::{SCENARIOS, scenario_named};
+use scenario::{SCENARIOS, find_scenario};
 use std::alloc::Global;
 
 /// Plays the scenario of this name.
-fn play_named(rt: &impl Print, alloc: Global, name: &str) -> Result<()> {
-    let Some(scenario) = scenario_named(name) else {
+fn play_by_name(rt: &impl Print, alloc: Global, name: &str) -> Result<()> {
+    let Some(scenario) = find_scenario(name) else {
         bail!("no scenario has this name");
     };
     scenario.play(rt, alloc)
@@ -50,7 +50,7 @@ fn play(rt: &impl Print, alloc: Global, names: &[String]) -> Result<()> {
         return play_all(rt, alloc);
     }
     for name in names {
-        play_named(rt, alloc, name)?;
+        play_by_name(rt, alloc, name)?;
     }
     Ok(())
 }

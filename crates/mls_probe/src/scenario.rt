@@ -91,7 +91,7 @@ pub(crate) const SCENARIOS: [Scenario; 23] = [
 ];
 
 /// The scenario of a name.
-pub(crate) fn scenario_named(name: &str) -> Option<Scenario> {
+pub(crate) fn find_scenario(name: &str) -> Option<Scenario> {
     for scenario in SCENARIOS {
         if scenario.name() == name {
             return Some(scenario);

@@ -1,5 +1,5 @@
-//! Secrets of epochs and transcripts of mls_schedule. The values are by Python's hashlib and hmac: epochs_values.py, beside
-//! this file, prints them.
+//! Secrets of epochs and transcripts of mls_schedule. The values are by Python's hashlib and hmac: epochs_values.py,
+//! beside this file, prints them.
 
 use crate::digits::{are, are_ones, bytes_of, ones, short_bytes_of};
 use mls_kdf::{KdfError, hash};
@@ -190,7 +190,7 @@ fn next(alloc: Global, before: &Epoch, row: &Row) -> Result<Start, AllocError> {
 }
 
 /// What a new member begins it with.
-fn joined(alloc: Global, joiner: &Secret, row: &Row) -> Result<Epoch, AllocError> {
+fn joiner_epoch(alloc: Global, joiner: &Secret, row: &Row) -> Result<Epoch, AllocError> {
     let context = short_bytes_of(alloc, row.context)?;
     Ok(Epoch::from_joiner(joiner, &context).epoch)
 }
@@ -216,11 +216,15 @@ fn is_welcomed(alloc: Global, joiner: &Secret, row: &Row) -> Result<bool, AllocE
 
 /// Whether a new member has them too.
 fn is_joined(alloc: Global, joiner: &Secret, row: &Row) -> Result<bool, AllocError> {
-    are(alloc, &nine_of(&joined(alloc, joiner, row)?), row.nine)
+    are(
+        alloc,
+        &nine_of(&joiner_epoch(alloc, joiner, row)?),
+        row.nine,
+    )
 }
 
 /// The confirmed transcript hash behind a commit.
-fn confirmed(alloc: Global, before: &Transcript, row: &Row) -> Result<Secret, AllocError> {
+fn confirmed_hash(alloc: Global, before: &Transcript, row: &Row) -> Result<Secret, AllocError> {
     let content = bytes_of(alloc, row.content)?;
     let signature = short_bytes_of(alloc, row.signature)?;
     Ok(before.confirm(1, &content, &signature))
@@ -256,7 +260,7 @@ fn follow(alloc: Global, point: &mut Point, row: &Row) -> Result<bool, AllocErro
     if !are_secrets(alloc, &start, row)? {
         return Ok(false);
     }
-    let confirmed = confirmed(alloc, &point.transcript, row)?;
+    let confirmed = confirmed_hash(alloc, &point.transcript, row)?;
     let transcript = transcript_of(alloc, &start.epoch, &confirmed, row)?;
     Ok(go_on(point, start, transcript))
 }

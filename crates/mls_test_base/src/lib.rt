@@ -1,4 +1,5 @@
-//! Worked values of the crates at the base: numbers and headers, places in trees, keys and secrets of epochs, and both suites.
+//! Worked values of the crates at the base: numbers and headers, places in trees, keys and secrets of epochs, and both
+//! suites.
 #![tactic(auto)]
 
 #[cfg(test)]

@@ -43,7 +43,7 @@ fn derives(alloc: Global, ikm: &str, sk: &str, pk: &str) -> Result<bool, Fail> {
 }
 
 /// What is sealed of the RFC's message.
-fn sealed(alloc: Global) -> Result<Option<Sealed>, Fail> {
+fn seal_message(alloc: Global) -> Result<Option<Sealed>, Fail> {
     let pk = key_of(PK_R)?;
     let ikm = key_of(IKM_E)?;
     Ok(seal(alloc, &pk, INFO, AAD, PT, &ikm)?)
@@ -51,14 +51,14 @@ fn sealed(alloc: Global) -> Result<Option<Sealed>, Fail> {
 
 /// Whether the RFC's message is sealed as it says.
 fn seals(alloc: Global) -> Result<bool, Fail> {
-    match sealed(alloc)? {
+    match seal_message(alloc)? {
         Some(sealed) => Ok(are(alloc, &sealed.enc, PK_E)? && are(alloc, &sealed.ct, CT)?),
         None => Ok(false),
     }
 }
 
 /// What the RFC's message opens to with this info and this additional data.
-fn opened(alloc: Global, info: &[u8], aad: &[u8]) -> Result<Option<Vec<u8>>, Fail> {
+fn open_message(alloc: Global, info: &[u8], aad: &[u8]) -> Result<Option<Vec<u8>>, Fail> {
     let ct = bytes_of(alloc, CT)?;
     let sk = key_of(SK_R)?;
     let enc = key_of(PK_E)?;
@@ -67,7 +67,7 @@ fn opened(alloc: Global, info: &[u8], aad: &[u8]) -> Result<Option<Vec<u8>>, Fai
 
 /// Whether it opens so.
 fn opens(alloc: Global, info: &[u8], aad: &[u8]) -> Result<bool, Fail> {
-    match opened(alloc, info, aad)? {
+    match open_message(alloc, info, aad)? {
         Some(bytes) => Ok(bytes.as_slice() == PT),
         None => Ok(false),
     }

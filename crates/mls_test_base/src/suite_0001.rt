@@ -60,7 +60,7 @@ fn seals(alloc: Global) -> Result<bool, OutOfMemory> {
 }
 
 /// What it opens to by a private key.
-fn opened(alloc: Global, sk: &[u8; 32]) -> Result<Option<Vec<u8>>, OutOfMemory> {
+fn open_secret(alloc: Global, sk: &[u8; 32]) -> Result<Option<Vec<u8>>, OutOfMemory> {
     let kem = bytes_of(alloc, KEM)?;
     let ct = bytes_of(alloc, CT)?;
     decrypt_with_label::<Suite0001>(alloc, sk, "Welcome", b"context", &kem, &ct)
@@ -69,11 +69,11 @@ fn opened(alloc: Global, sk: &[u8; 32]) -> Result<Option<Vec<u8>>, OutOfMemory> 
 /// Whether it opens again.
 fn opens(alloc: Global) -> Result<bool, OutOfMemory> {
     let pair = Suite0001::derive_key_pair(alloc, b"ikm")?;
-    Ok(is_text(opened(alloc, &pair.sk)?, b"secret"))
+    Ok(is_text(open_secret(alloc, &pair.sk)?, b"secret"))
 }
 
 #[test]
-fn sealed_and_opened(rt: HostRuntime) -> Result<(), Fail> {
+fn sealing_and_opening(rt: HostRuntime) -> Result<(), Fail> {
     assert!(rt; derives(rt.alloc())?);
     assert!(rt; seals(rt.alloc())?);
     assert!(rt; opens(rt.alloc())?);
@@ -106,7 +106,7 @@ fn verifies_nothing(alloc: Global) -> Result<bool, OutOfMemory> {
 }
 
 #[test]
-fn signed_and_verified(rt: HostRuntime) -> Result<(), Fail> {
+fn signing_and_verifying(rt: HostRuntime) -> Result<(), Fail> {
     assert!(rt; is_public(rt.alloc())?);
     assert!(rt; signs(rt.alloc())?);
     assert!(rt; verifies(rt.alloc())?);
@@ -121,7 +121,7 @@ fn is_boxed(alloc: Global) -> Result<bool, OutOfMemory> {
 }
 
 /// What the box opens to with this additional data.
-fn unboxed(alloc: Global, aad: &[u8]) -> Result<Option<Vec<u8>>, OutOfMemory> {
+fn open_box(alloc: Global, aad: &[u8]) -> Result<Option<Vec<u8>>, OutOfMemory> {
     let sealed = bytes_of(alloc, BOX)?;
     Suite0001::aead_open(alloc, &[1; 16], &[2; 12], aad, &sealed)
 }
@@ -129,8 +129,8 @@ fn unboxed(alloc: Global, aad: &[u8]) -> Result<Option<Vec<u8>>, OutOfMemory> {
 #[test]
 fn group_info(rt: HostRuntime) -> Result<(), Fail> {
     assert!(rt; is_boxed(rt.alloc())?);
-    assert!(rt; is_text(unboxed(rt.alloc(), b"aad")?, b"group info"));
-    assert!(rt; unboxed(rt.alloc(), b"")?.is_none());
+    assert!(rt; is_text(open_box(rt.alloc(), b"aad")?, b"group info"));
+    assert!(rt; open_box(rt.alloc(), b"")?.is_none());
     Ok(())
 }
 

@@ -151,7 +151,7 @@ const PARTS: [Part; 18] = [
 ];
 
 /// The message with a bit of a byte changed.
-fn flipped(alloc: Global, message: &[u8], place: usize, bit: u32) -> Result<Vec<u8>, AllocError> {
+fn flip_bit(alloc: Global, message: &[u8], place: usize, bit: u32) -> Result<Vec<u8>, AllocError> {
     let mut changed = Vec::from_slice(alloc, message)?;
     if let Some(byte) = changed.get_mut(place) {
         *byte = *byte ^ 1_u8.rotate_left(bit);
@@ -169,7 +169,7 @@ fn count_part<S: Suite>(
     let mut count: u32 = 0;
     for place in part.first..part.last {
         for bit in 0..8 {
-            let changed = flipped(alloc, message, place, bit)?;
+            let changed = flip_bit(alloc, message, place, bit)?;
             if number_of_hearing(conversation, &changed) == part.number {
                 count = count.saturating_add(1);
             }
@@ -206,8 +206,8 @@ fn count_prefixes<S: Suite>(conversation: &mut Conversation<S>, message: &[u8]) 
     count
 }
 
-/// What Alice's first message is answered by Bob, with each bit changed, and each end cut off; and whether it is the one by
-/// hand and opens then.
+/// What Alice's first message is answered by Bob, with each bit changed, and each end cut off; and whether it is the
+/// one by hand and opens then.
 fn answers_of<S: Suite>(
     alloc: Global,
     speakers: &mut Speakers<S>,

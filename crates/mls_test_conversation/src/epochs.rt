@@ -45,8 +45,8 @@ fn another_group(rt: HostRuntime) -> Result<(), Fail> {
 const OF_GONE: &str =
     "000100020567726f7570000000000000000201002c8bd1fee2e848181fea41ec9198004ebed7329990512dd64f1bfec81a99f8e9d0ade31b1cec70c99e0e5bd9c4404745a125a7afa1ef1594503d1ac1b071ebe915afc2dda502ee53d33037159122ef3831290150f577a20a557eef80bc823e638b3ef42307321ecfe764484e6fbca76efda13f5497bc";
 
-/// What is answered after Carol was removed: by Bob and Carol of the epoch before to Alice's message, by Bob to Carol's last
-/// one and to one in her name, and then by Bob of each epoch to the message of his epoch.
+/// What is answered after Carol was removed: by Bob and Carol of the epoch before to Alice's message, by Bob to Carol's
+/// last one and to one in her name, and then by Bob of each epoch to the message of his epoch.
 fn answers_across<S: Suite>(
     alloc: Global,
     before: &mut Speakers<S>,
@@ -114,19 +114,19 @@ fn goes_on<S: Suite>(
 }
 
 /// The text with so many bytes of padding.
-fn padded(padding: usize) -> Text {
+fn text_with_padding(padding: usize) -> Text {
     Text { padding, ..HELLO }
 }
 
-/// What is answered where texts are refused between the first message and two others: one byte of padding more than an input
-/// may have, and as many as it may, which with the content are more.
+/// What is answered where texts are refused between the first message and two others: one byte of padding more than an
+/// input may have, and as many as it may, which with the content are more.
 fn answers_between<S: Suite>(
     speakers: &mut Speakers<S>,
 ) -> Result<(bool, u8, u8, bool, bool), ExchangeError> {
     let (alice, bob) = (&mut speakers.alice, &mut speakers.bob);
     let first = goes_on(alice, bob, 0)?;
-    let more = number_of_saying(alice, &padded(INPUT_LIMIT + 1));
-    let whole = number_of_saying(alice, &padded(INPUT_LIMIT));
+    let more = number_of_saying(alice, &text_with_padding(INPUT_LIMIT + 1));
+    let whole = number_of_saying(alice, &text_with_padding(INPUT_LIMIT));
     let second = goes_on(alice, bob, 1)?;
     Ok((first, more, whole, second, goes_on(alice, bob, 2)?))
 }

@@ -1,5 +1,5 @@
-//! Worked conversations of a group of three: messages by hand under both suites, and what is refused; and secret trees and
-//! private messages by hand.
+//! Worked conversations of a group of three: messages by hand under both suites, and what is refused; and secret trees
+//! and private messages by hand.
 #![tactic(auto)]
 
 #[cfg(test)]

@@ -68,7 +68,7 @@ fn hears_once<S: Suite>(
 }
 
 /// How many of the ten open in an order, each once.
-fn heard_in_order<S: Suite>(
+fn count_heard_in_order<S: Suite>(
     conversation: &mut Conversation<S>,
     messages: &[Vec<u8>],
     order: &[u8; 10],
@@ -94,14 +94,14 @@ fn count_used<S: Suite>(conversation: &mut Conversation<S>, messages: &[Vec<u8>]
 }
 
 /// How many open in an order, each once, at a member that used no key before, and how many are refused as used then.
-fn heard_and_used<S: Suite>(
+fn count_heard_and_used<S: Suite>(
     alloc: Global,
     member: &Member<S>,
     messages: &[Vec<u8>],
     order: &[u8; 10],
 ) -> Result<(u32, u32), Fail> {
     let mut conversation = converse(alloc, member)?;
-    let heard = heard_in_order(&mut conversation, messages, order)?;
+    let heard = count_heard_in_order(&mut conversation, messages, order)?;
     Ok((heard, count_used(&mut conversation, messages)))
 }
 
@@ -113,7 +113,7 @@ fn count_orders<S: Suite>(
 ) -> Result<u32, Fail> {
     let mut count: u32 = 0;
     for order in ORDERS {
-        if heard_and_used(alloc, carol, messages, &order)? == (10, 10) {
+        if count_heard_and_used(alloc, carol, messages, &order)? == (10, 10) {
             count = count.saturating_add(1);
         }
     }
@@ -143,8 +143,8 @@ fn ten_messages_in_six_orders(rt: HostRuntime) -> Result<(), Fail> {
 /// Which of Alice's generations are kept for the window's ends.
 const KEPT: [u32; 4] = [0, 1, 1000, 1001];
 
-/// Which of them a reader gets, by their place, and with which number each is refused, 0 where it opens: beyond the window,
-/// at its end, a second time, and 1,000 generations back.
+/// Which of them a reader gets, by their place, and with which number each is refused, 0 where it opens: beyond the
+/// window, at its end, a second time, and 1,000 generations back.
 const AT_WINDOW: [(usize, u8); 8] = [
     (3, 115),
     (2, 0),

@@ -1,5 +1,5 @@
-//! Private messages of any sender, with any key, signature and padding, by RFC 9420, 6.3, with Python's hashlib and hmac:
-//! tools/mls_private_message/rows prints them.
+//! Private messages of any sender, with any key, signature and padding, by RFC 9420, 6.3, with Python's hashlib and
+//! hmac: tools/mls_private_message/rows prints them.
 
 use crate::speakers::bytes_of;
 use mls_leaf::{Bytes, Codec, LeafError};
@@ -227,8 +227,9 @@ fn private_messages_stay_shut(rt: HostRuntime) -> Result<(), Fail> {
     Ok(())
 }
 
-/// One byte of a message changed, at a place from its front, and the number of the refusal: the version, the wire format,
-/// the group, the epoch, the content type, the authenticated data, the sealed sender data, the sample, and what is behind.
+/// One byte of a message changed, at a place from its front, and the number of the refusal: the version, the wire
+/// format, the group, the epoch, the content type, the authenticated data, the sealed sender data, the sample, and what
+/// is behind.
 const CHANGED: [(usize, u8); 9] = [
     (1, 7),
     (3, 7),
@@ -269,8 +270,8 @@ fn count_cut(alloc: Global, message: &[u8]) -> Result<usize, AllocError> {
     Ok(count)
 }
 
-/// How many bytes the short message has, how many of its beginnings are refused as cut, and the number of the message with
-/// a byte behind it.
+/// How many bytes the short message has, how many of its beginnings are refused as cut, and the number of the message
+/// with a byte behind it.
 fn answers_at_ends(alloc: Global) -> Result<(usize, usize, u8), AllocError> {
     let mut message = bytes_of(alloc, SHORT.message)?;
     let count = count_cut(alloc, &message)?;

@@ -134,8 +134,8 @@ fn tree_keys(rt: HostRuntime) -> Result<(), Fail> {
     Ok(())
 }
 
-/// Takes the key of a generation of leaf 2, and tells whether it is this one, or is refused as used (116) where there is
-/// none.
+/// Takes the key of a generation of leaf 2, and tells whether it is this one, or is refused as used (116) where there
+/// is none.
 fn takes_as(
     alloc: Global,
     tree: &mut SecretTree,
@@ -174,7 +174,8 @@ fn count_once(
     count
 }
 
-/// How many of three keys in another order are the same, each once, and the next generations of the leaf and of another.
+/// How many of three keys in another order are the same, each once, and the next generations of the leaf and of
+/// another.
 fn once_answers(alloc: Global) -> Result<(u32, Option<u32>, Option<u32>), SecretTreeError> {
     let keys = keys_in_order(alloc)?;
     let mut tree = first_tree(4)?;
@@ -188,8 +189,8 @@ fn each_key_once(rt: HostRuntime) -> Result<(), Fail> {
     Ok(())
 }
 
-/// Generations of leaf 0 in a tree of two leaves, one after the other, and the number that each is refused with, 0 where
-/// its key is taken: 1,000 generations ahead are passed over, and keys are kept of 1,000 back.
+/// Generations of leaf 0 in a tree of two leaves, one after the other, and the number that each is refused with, 0
+/// where its key is taken: 1,000 generations ahead are passed over, and keys are kept of 1,000 back.
 const WINDOW_STEPS: [(u32, u8); 5] = [(1001, 115), (1000, 0), (1001, 0), (0, 116), (1, 0)];
 
 /// The number that a key is refused with, 0 where it is taken.

@@ -33,7 +33,7 @@ pub(crate) fn bytes_of(alloc: Global, digits: &str) -> Result<Vec<u8>, AllocErro
 }
 
 /// A value in a box.
-fn boxed<T: Drop>(alloc: Global, value: T) -> Result<Box<T>, AllocError> {
+fn in_box<T: Drop>(alloc: Global, value: T) -> Result<Box<T>, AllocError> {
     Ok(Box::new(alloc, value)?)
 }
 
@@ -43,7 +43,7 @@ pub(crate) fn converse<S: Suite>(
     member: &Member<S>,
 ) -> Result<Box<Conversation<S>>, ConversationError> {
     let conversation = Conversation::of(alloc, member)?;
-    Ok(boxed(alloc, conversation)?)
+    Ok(in_box(alloc, conversation)?)
 }
 
 /// The number with which a member has no conversation, 0 where it has one.

@@ -156,7 +156,7 @@ fn number_of_digits<S: Suite>(
 }
 
 /// How many of the wrong messages are refused with their number.
-fn refused_by_number<S: Suite>(
+fn count_refused_by_number<S: Suite>(
     alloc: Global,
     conversation: &mut Conversation<S>,
 ) -> Result<u32, AllocError> {
@@ -187,7 +187,7 @@ fn answers_of<S: Suite>(
     alloc: Global,
     speakers: &mut Speakers<S>,
 ) -> Result<(u32, bool, bool), ExchangeError> {
-    let count = refused_by_number(alloc, &mut speakers.carol)?;
+    let count = count_refused_by_number(alloc, &mut speakers.carol)?;
     let of_alice = true_one_opens(speakers, 0)?;
     let of_bob = true_one_opens(speakers, 1)?;
     Ok((count, of_alice, of_bob))

@@ -185,7 +185,7 @@ fn reference_in(alloc: Global, message: &[u8]) -> Result<Vec<u8>, LeafError> {
 }
 
 /// Extensions by reference, and others in full.
-fn named_and_full(alloc: Global, message: &[u8]) -> Result<Vec<Item>, LeafError>
+fn two_lists(alloc: Global, message: &[u8]) -> Result<Vec<Item>, LeafError>
     ensures { IfOk result (λ v. AreShortItems v.items) }
 {
     let mut items = alone(alloc, 1)?;
@@ -197,7 +197,7 @@ fn named_and_full(alloc: Global, message: &[u8]) -> Result<Vec<Item>, LeafError>
 fn second_list(alloc: Global) -> Result<u8, Refusal> {
     let mut member = create_first(alloc, 1)?;
     let message = propose(alloc, &mut member)?;
-    let items = named_and_full(alloc, &message)?;
+    let items = two_lists(alloc, &message)?;
     match member.commit(&items, true, &[3; 32]) {
         Ok(_) => Ok(0),
         Err(error) => Ok(error.number()),

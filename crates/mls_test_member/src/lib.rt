@@ -1,5 +1,5 @@
-//! Worked candidates, messages, joins, paths, pairs of members, and what is saved and loaded of them, which run under the
-//! practice suite.
+//! Worked candidates, messages, joins, paths, pairs of members, and what is saved and loaded of them, which run under
+//! the practice suite.
 #![tactic(auto)]
 
 #[cfg(test)]

@@ -69,7 +69,8 @@ fn member_kind(alloc: Global, bytes: &[u8]) -> Option<RefusalKind> {
     }
 }
 
-/// Its leaf index, its keys and what it keeps are the last so many bytes of a member that is alone and has nothing pending.
+/// Its leaf index, its keys and what it keeps are the last so many bytes of a member that is alone and has nothing
+/// pending.
 const KEYS: usize = 73;
 
 #[test]

@@ -9,7 +9,7 @@ use std::test::Fail;
 const BITS: [u8; 8] = [1, 2, 4, 8, 16, 32, 64, 128];
 
 /// The bytes that a new candidate is saved as.
-fn saved_candidate(alloc: Global) -> Result<Vec<u8>, CandidateError> {
+fn save_candidate(alloc: Global) -> Result<Vec<u8>, CandidateError> {
     let candidate: Candidate<Glass> = Candidate::new(alloc, b"a", &[1; 32])?;
     candidate.save(alloc)
 }
@@ -37,7 +37,7 @@ fn refusal(alloc: Global, bytes: &[u8]) -> u8 {
 }
 
 /// How many prefixes are refused.
-fn refused_prefixes(alloc: Global, bytes: &[u8]) -> usize {
+fn count_refused_prefixes(alloc: Global, bytes: &[u8]) -> usize {
     let mut count: usize = 0;
     for end in 0..bytes.len() {
         if refusal(alloc, &bytes[..end]) != 0 {
@@ -48,7 +48,7 @@ fn refused_prefixes(alloc: Global, bytes: &[u8]) -> usize {
 }
 
 /// How many of the eight changes of one bit of a byte are refused.
-fn refused_bits(alloc: Global, bytes: &[u8], place: usize) -> Result<usize, OutOfMemory> {
+fn count_refused_bits(alloc: Global, bytes: &[u8], place: usize) -> Result<usize, OutOfMemory> {
     let mut changed = Vec::from_slice(alloc, bytes)?;
     let mut count: usize = 0;
     for bit in BITS {
@@ -63,10 +63,10 @@ fn refused_bits(alloc: Global, bytes: &[u8], place: usize) -> Result<usize, OutO
 }
 
 /// How many changes of one bit are refused.
-fn refused_changes(alloc: Global, bytes: &[u8]) -> Result<usize, OutOfMemory> {
+fn count_refused_changes(alloc: Global, bytes: &[u8]) -> Result<usize, OutOfMemory> {
     let mut count: usize = 0;
     for place in 0..bytes.len() {
-        count = count.saturating_add(refused_bits(alloc, bytes, place)?);
+        count = count.saturating_add(count_refused_bits(alloc, bytes, place)?);
     }
     Ok(count)
 }
@@ -74,7 +74,7 @@ fn refused_changes(alloc: Global, bytes: &[u8]) -> Result<usize, OutOfMemory> {
 #[test]
 fn a_candidate_is_saved_and_loaded(rt: HostRuntime) -> Result<(), Fail> {
     let alloc = rt.alloc();
-    let bytes = saved_candidate(alloc)?;
+    let bytes = save_candidate(alloc)?;
     // The version, a KeyPackage of 203 bytes, and three keys behind headers.
     assert_eq!(rt; bytes.len(), 304);
     assert_eq!(rt; refusal(alloc, &bytes), 0);
@@ -85,8 +85,8 @@ fn a_candidate_is_saved_and_loaded(rt: HostRuntime) -> Result<(), Fail> {
 #[test]
 fn what_was_changed_is_refused(rt: HostRuntime) -> Result<(), Fail> {
     let alloc = rt.alloc();
-    let bytes = saved_candidate(alloc)?;
-    assert_eq!(rt; refused_prefixes(alloc, &bytes), 304);
-    assert_eq!(rt; refused_changes(alloc, &bytes)?, 8 * 304);
+    let bytes = save_candidate(alloc)?;
+    assert_eq!(rt; count_refused_prefixes(alloc, &bytes), 304);
+    assert_eq!(rt; count_refused_changes(alloc, &bytes)?, 8 * 304);
     Ok(())
 }

@@ -1,5 +1,5 @@
-//! The history of a group of three: what they say, and what they are saved as in the end. Members stand in boxes, so that the
-//! proof of a test goes into none of their parts.
+//! The history of a group of three: what they say, and what they are saved as in the end. Members stand in boxes, so
+//! that the proof of a test goes into none of their parts.
 
 use mls_candidate::Candidate;
 use mls_member::{Item, Made, Member};
@@ -149,7 +149,8 @@ fn deliver(alloc: Global, keeping: Keeping, group: Group, message: &[u8]) -> Res
     keep_all(alloc, keeping, group)
 }
 
-/// Bob proposes an update, alice commits it, carol proposes to remove bob, and alice commits that. The messages are added.
+/// Bob proposes an update, alice commits it, carol proposes to remove bob, and alice commits that. The messages are
+/// added.
 fn speak(alloc: Global, keeping: Keeping, group: Group, said: &mut Vec<u8>) -> Result<Group, Fail> {
     let mut group = group;
     let update = group.bob.propose_update(&[7; 32])?;

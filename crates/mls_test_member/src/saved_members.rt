@@ -28,7 +28,7 @@ fn load(alloc: Global, bytes: &[u8]) -> Answer {
 }
 
 /// How many prefixes are refused.
-fn refused_prefixes(alloc: Global, bytes: &[u8]) -> usize {
+fn count_refused_prefixes(alloc: Global, bytes: &[u8]) -> usize {
     let mut count: usize = 0;
     for end in 0..bytes.len() {
         if let Answer::Refused = load(alloc, &bytes[..end]) {
@@ -39,7 +39,7 @@ fn refused_prefixes(alloc: Global, bytes: &[u8]) -> usize {
 }
 
 /// How many of the eight changes of one bit of a byte are loaded.
-fn loaded_bits(alloc: Global, bytes: &[u8], place: usize) -> Result<usize, OutOfMemory> {
+fn count_loaded_bits(alloc: Global, bytes: &[u8], place: usize) -> Result<usize, OutOfMemory> {
     let mut changed = Vec::from_slice(alloc, bytes)?;
     let mut count: usize = 0;
     for bit in BITS {
@@ -54,16 +54,16 @@ fn loaded_bits(alloc: Global, bytes: &[u8], place: usize) -> Result<usize, OutOf
 }
 
 /// How many changes of one bit are loaded.
-fn loaded_changes(alloc: Global, bytes: &[u8]) -> Result<usize, OutOfMemory> {
+fn count_loaded_changes(alloc: Global, bytes: &[u8]) -> Result<usize, OutOfMemory> {
     let mut count: usize = 0;
     for place in 0..bytes.len() {
-        count = count.saturating_add(loaded_bits(alloc, bytes, place)?);
+        count = count.saturating_add(count_loaded_bits(alloc, bytes, place)?);
     }
     Ok(count)
 }
 
 /// What carol is saved as.
-fn saved_carol(alloc: Global) -> Result<Vec<u8>, Fail> {
+fn save_carol(alloc: Global) -> Result<Vec<u8>, Fail> {
     let group = three(alloc, Keeping::Held)?;
     Ok(group.carol.save()?)
 }
@@ -80,17 +80,17 @@ fn who_is_loaded_goes_on(rt: HostRuntime) -> Result<(), Fail> {
 #[test]
 fn prefixes_are_refused(rt: HostRuntime) -> Result<(), Fail> {
     let alloc = rt.alloc();
-    let bytes = saved_carol(alloc)?;
-    assert_eq!(rt; refused_prefixes(alloc, &bytes), bytes.len());
+    let bytes = save_carol(alloc)?;
+    assert_eq!(rt; count_refused_prefixes(alloc, &bytes), bytes.len());
     Ok(())
 }
 
-// The epoch's number, the transcript's two hashes, the epoch secret and whether the member was removed are checked against
-// nothing: each of their 64, 512, 256 and 1 bits gives another member.
+// The epoch's number, the transcript's two hashes, the epoch secret and whether the member was removed are checked
+// against nothing: each of their 64, 512, 256 and 1 bits gives another member.
 #[test]
 fn other_bits_are_refused(rt: HostRuntime) -> Result<(), Fail> {
     let alloc = rt.alloc();
-    let bytes = saved_carol(alloc)?;
-    assert_eq!(rt; loaded_changes(alloc, &bytes)?, 833);
+    let bytes = save_carol(alloc)?;
+    assert_eq!(rt; count_loaded_changes(alloc, &bytes)?, 833);
     Ok(())
 }

@@ -143,7 +143,8 @@ fn what_a_message_would_do(rt: HostRuntime) -> Result<(), Fail> {
     Ok(())
 }
 
-/// Both propose updates, and the first commits what it keeps. Whether it leaves out its own alone, and the second follows.
+/// Both propose updates, and the first commits what it keeps. Whether it leaves out its own alone, and the second
+/// follows.
 fn commit_kept(pair: &mut Pair<Glass>) -> Result<bool, Refusal> {
     let own = pair.first.propose_update(&[6; 32])?;
     let update = pair.second.propose_update(&[7; 32])?;

@@ -145,7 +145,7 @@ fn number_of(answer: Result<(), CheckError>) -> Result<u8, CheckError> {
     }
 }
 
-fn offered(alloc: Global, bytes: &[u8]) -> Result<u8, Fail> {
+fn number_of_key_package(alloc: Global, bytes: &[u8]) -> Result<u8, Fail> {
     if bytes.len() > 1000 {
         return Err("too long".into());
     }
@@ -153,7 +153,13 @@ fn offered(alloc: Global, bytes: &[u8]) -> Result<u8, Fail> {
     Ok(number_of(key_package::<Glass>(alloc, &offered))?)
 }
 
-fn put_in(alloc: Global, new: &[u8], old: &[u8], source: LeafUse, index: u32) -> Result<u8, Fail> {
+fn number_of_replacement(
+    alloc: Global,
+    new: &[u8],
+    old: &[u8],
+    source: LeafUse,
+    index: u32,
+) -> Result<u8, Fail> {
     if new.len() > 1000 {
         return Err("too long".into());
     }
@@ -175,7 +181,7 @@ fn key_packages(rt: HostRuntime) -> Result<(), Fail> {
         (SHORT_KEY, 36),
     ];
     for (bytes, number) in table {
-        assert_eq!(rt; offered(rt.alloc(), bytes)?, number);
+        assert_eq!(rt; number_of_key_package(rt.alloc(), bytes)?, number);
     }
     Ok(())
 }
@@ -192,7 +198,10 @@ fn replacements(rt: HostRuntime) -> Result<(), Fail> {
         (UPDATED, OLD_KEY, LeafUse::Update, 5, 54),
     ];
     for (new, old, source, index, number) in table {
-        assert_eq!(rt; put_in(rt.alloc(), new, old, source, index)?, number);
+        assert_eq!(rt;
+            number_of_replacement(rt.alloc(), new, old, source, index)?,
+            number
+        );
     }
     assert_eq!(rt; CheckError::LeafKeySame.name(), "LeafKeySame");
     Ok(())

@@ -2,8 +2,8 @@
 //! is opened by members and taken by a joiner.
 
 use crate::small_trees::{
-    answers_with, boxed, follow_edit, four, has_nodes, holds, leaf, make_path, next, open_path,
-    public, sealed_path, take_secret, with_key,
+    answers_with, follow_edit, four, has_nodes, holds, in_box, leaf, make_path, next, open_path,
+    public, seal_secrets, take_secret, with_key,
 };
 use mls_kdf::Secret;
 use mls_leaf::{Bytes, LeafNode, LeafSource};
@@ -93,7 +93,7 @@ fn seal_path(
     tree: &PublicTree,
     secrets: &PathSecrets,
 ) -> Option<Vec<UpdatePathNode>> {
-    sealed_path(alloc, tree, &[3], secrets, &SEED).ok()
+    seal_secrets(alloc, tree, &[3], secrets, &SEED).ok()
 }
 
 /// The commit, with its path merged.
@@ -102,7 +102,7 @@ fn make_commit(alloc: Global) -> Option<Box<Commit>> {
     let secrets = made_path(alloc, &tree)?;
     let nodes = seal_path(alloc, &tree, &secrets)?;
     merge(alloc, &mut tree, &secrets)?;
-    boxed(
+    in_box(
         alloc,
         Commit {
             tree,
@@ -143,7 +143,7 @@ fn is_sealed(alloc: Global, seals: u32) -> bool {
 }
 
 #[test]
-fn received_in_order(rt: HostRuntime) {
+fn members_receive_in_order(rt: HostRuntime) {
     assert!(rt; holds(is_received(rt.alloc(), 0, &[0, 1, 3])));
     assert!(rt; holds(is_received(rt.alloc(), 2, &[3, 4])));
     assert!(rt; is_sealed(rt.alloc(), 2));
@@ -181,7 +181,7 @@ fn joins(alloc: Global, secret: &Secret, nodes: &[u64]) -> Option<bool> {
 }
 
 #[test]
-fn sent_to_joiners(rt: HostRuntime) {
+fn joiners_are_sent_secrets(rt: HostRuntime) {
     let alloc = rt.alloc();
     let first = path_seed(&SEED);
     let second = next(&first);

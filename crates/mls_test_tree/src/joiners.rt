@@ -1,7 +1,7 @@
 //! What a joiner takes.
 
 use crate::small_trees::{
-    answers_with, boxed, has_key, has_nodes, holds, key_of, make_path, member, node_pair,
+    answers_with, has_key, has_nodes, holds, in_box, key_of, make_path, member, node_pair,
     number_of, take_secret, with_key,
 };
 use mls_kdf::Secret;
@@ -31,7 +31,7 @@ fn parent(alloc: Global, listed: &[u32]) -> Option<Slot> {
 
 /// The tree of these nodes.
 fn tree_of(alloc: Global, nodes: Vec<Slot>) -> Option<Box<PublicTree>> {
-    boxed(alloc, PublicTree::from_nodes(nodes).ok()?)
+    in_box(alloc, PublicTree::from_nodes(nodes).ok()?)
 }
 
 fn push_leaf(alloc: Global, nodes: &mut Vec<Slot>, key: u8) -> Option<()> {

@@ -1,7 +1,7 @@
 //! Secrets of paths, and the keys that a member has.
 
 use crate::small_trees::{
-    add, boxed, follow_edit, has_key, has_nodes, holds, make_path, next, node_pair, path_secrets,
+    add, follow_edit, has_key, has_nodes, holds, in_box, make_path, next, node_pair, path_secrets,
     single, with_key,
 };
 use mls_kdf::Secret;
@@ -83,7 +83,7 @@ struct Maker {
 fn two_maker(alloc: Global) -> Option<Box<Maker>> {
     let mut own = with_key(alloc, 1, 1)?;
     let made = make_two(alloc, &mut own)?;
-    boxed(alloc, Maker { own, made })
+    in_box(alloc, Maker { own, made })
 }
 
 /// Whether the maker has its leaf's key and those of the path of two nodes.
@@ -117,7 +117,7 @@ fn keys_of_a_maker(rt: HostRuntime) {
 
 /// A copy of a member.
 fn copy_of(alloc: Global, own: &PrivatePath) -> Option<Box<PrivatePath>> {
-    boxed(alloc, own.clone().ok()?)
+    in_box(alloc, own.clone().ok()?)
 }
 
 /// Whether a copy of the maker is of the same leaf, and has its leaf's key and those of the path of two nodes.

@@ -25,16 +25,16 @@ fn ciphertext(sealed: Sealed) -> HpkeCiphertext {
 }
 
 /// A text sealed to the key of a private key of 32 such bytes.
-fn sealed(alloc: Global, key: u8, text: &[u8]) -> Option<HpkeCiphertext> {
+fn encrypt_text(alloc: Global, key: u8, text: &[u8]) -> Option<HpkeCiphertext> {
     let pk = public(alloc, &[key; 32])?;
     Some(ciphertext(encrypt(alloc, &pk, text)?))
 }
 
 /// A text sealed to each of some keys.
-fn sealed_to(alloc: Global, keys: &[u8], text: &[u8]) -> Option<Items<HpkeCiphertext>> {
+fn encrypt_to_each(alloc: Global, keys: &[u8], text: &[u8]) -> Option<Items<HpkeCiphertext>> {
     let mut ciphertexts = Vec::new(alloc);
     for key in keys {
-        ciphertexts.push(sealed(alloc, *key, text)?).ok()?;
+        ciphertexts.push(encrypt_text(alloc, *key, text)?).ok()?;
     }
     Some(Items::from_vec(ciphertexts))
 }
@@ -64,14 +64,19 @@ fn path_of(
     ciphertexts: Items<HpkeCiphertext>,
 ) -> Option<Vec<UpdatePathNode>> {
     let mut nodes = Vec::new(alloc);
-    push_node(alloc, &mut nodes, &START, sealed_to(alloc, &[0], &START)?)?;
+    push_node(
+        alloc,
+        &mut nodes,
+        &START,
+        encrypt_to_each(alloc, &[0], &START)?,
+    )?;
     push_node(alloc, &mut nodes, highest, ciphertexts)?;
     Some(nodes)
 }
 
 /// That path, with a text sealed to some keys at its highest node.
 fn path(alloc: Global, highest: &Secret, keys: &[u8], text: &[u8]) -> Option<Vec<UpdatePathNode>> {
-    path_of(alloc, highest, sealed_to(alloc, keys, text)?)
+    path_of(alloc, highest, encrypt_to_each(alloc, keys, text)?)
 }
 
 /// The path secret of the root.
@@ -107,7 +112,7 @@ fn opens(alloc: Global, i: u8, added: &[u32], keys: &[u8], nodes: &[u64]) -> boo
 }
 
 #[test]
-fn opened_by_each_member(rt: HostRuntime) {
+fn each_member_opens_it(rt: HostRuntime) {
     let alloc = rt.alloc();
     assert!(rt; opens(alloc, 0, &[], &[2, 3], &[0, 1, 3]));
     assert!(rt; opens(alloc, 2, &[], &[2, 3], &[3, 4]));
@@ -155,7 +160,7 @@ fn another_chain_above(rt: HostRuntime) {
 }
 
 /// A ciphertext with one bit changed.
-fn changed(alloc: Global, sealed: HpkeCiphertext) -> Option<HpkeCiphertext> {
+fn change_bit(alloc: Global, sealed: HpkeCiphertext) -> Option<HpkeCiphertext> {
     let mut changed = Vec::from_slice(alloc, sealed.ciphertext.as_slice()).ok()?;
     if let Some(byte) = changed.first_mut() {
         *byte ^= 1;
@@ -175,7 +180,7 @@ fn alone(alloc: Global, sealed: HpkeCiphertext) -> Option<Items<HpkeCiphertext>>
 
 /// Leaf 1's path, whose root has its path secret sealed to leaf 2, with one bit changed.
 fn changed_path(alloc: Global) -> Option<Vec<UpdatePathNode>> {
-    let sealed = changed(alloc, sealed(alloc, 2, &second())?)?;
+    let sealed = change_bit(alloc, encrypt_text(alloc, 2, &second())?)?;
     path_of(alloc, &second(), alone(alloc, sealed)?)
 }
 

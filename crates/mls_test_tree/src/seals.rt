@@ -1,7 +1,7 @@
 //! Paths that are sealed in small trees.
 
 use crate::small_trees::{
-    answers_with, four, holds, leaf, next, number_of, of_four, path_secrets, sealed_path,
+    answers_with, four, holds, leaf, next, number_of, of_four, path_secrets, seal_secrets,
 };
 use mls_kdf::Secret;
 use mls_leaf::LeafNode;
@@ -26,21 +26,21 @@ fn seeds_of_seals(rt: HostRuntime) {
 const START: Secret = [7; 32];
 
 /// The path that leaf 1 sends in a commit that added these leaves.
-fn sealed(
+fn seal_path(
     alloc: Global,
     tree: &PublicTree,
     added: &[u32],
 ) -> Result<Vec<UpdatePathNode>, TreeKemError> {
     match path_secrets(alloc, &START, 2) {
-        Some(path) => sealed_path(alloc, tree, added, &path, &[9; 32]),
+        Some(path) => seal_secrets(alloc, tree, added, &path, &[9; 32]),
         None => Err(TreeKemError::OutOfMemory),
     }
 }
 
 /// That path in a tree of four.
-fn sealed_in_four(alloc: Global, added: &[u32]) -> Option<Vec<UpdatePathNode>> {
+fn seal_path_in_four(alloc: Global, added: &[u32]) -> Option<Vec<UpdatePathNode>> {
     let tree = four(alloc)?;
-    sealed(alloc, &tree, added).ok()
+    seal_path(alloc, &tree, added).ok()
 }
 
 /// How many ciphertexts node i has.
@@ -58,7 +58,7 @@ fn have_counts(nodes: &[UpdatePathNode], lower: usize, upper: usize) -> bool {
 
 /// Whether the path is of two nodes with so many ciphertexts, and so many in all, in a commit that added these leaves.
 fn has_counts(alloc: Global, added: &[u32], lower: usize, upper: usize, seals: u32) -> bool {
-    match sealed_in_four(alloc, added) {
+    match seal_path_in_four(alloc, added) {
         Some(nodes) => have_counts(&nodes, lower, upper) && seal_count_of(&nodes) == seals,
         None => false,
     }
@@ -76,14 +76,20 @@ fn ciphertext_at(nodes: &[UpdatePathNode], i: usize, place: usize) -> Option<&Hp
 }
 
 /// What a ciphertext of the path opens to, by the key of 32 such bytes, in a commit that added these leaves.
-fn opened(alloc: Global, added: &[u32], i: usize, place: usize, byte: u8) -> Option<Vec<u8>> {
-    let nodes = sealed_in_four(alloc, added)?;
+fn open_ciphertext(
+    alloc: Global,
+    added: &[u32],
+    i: usize,
+    place: usize,
+    byte: u8,
+) -> Option<Vec<u8>> {
+    let nodes = seal_path_in_four(alloc, added)?;
     decrypt(alloc, byte, ciphertext_at(&nodes, i, place)?)
 }
 
 /// Whether that is this secret.
 fn opens(alloc: Global, added: &[u32], i: usize, place: usize, byte: u8, secret: &Secret) -> bool {
-    match opened(alloc, added, i, place, byte) {
+    match open_ciphertext(alloc, added, i, place, byte) {
         Some(opened) => opened.as_slice() == secret.as_slice(),
         None => false,
     }
@@ -115,7 +121,7 @@ fn a_path_of_four(rt: HostRuntime) {
 /// Whether leaf i takes this commit secret of the path in a tree of four.
 fn takes(alloc: Global, i: u8, commit_secret: &Secret) -> Option<bool> {
     let mut own = of_four(alloc, i)?;
-    let path = sealed(alloc, &own.tree, &[]).ok()?;
+    let path = seal_path(alloc, &own.tree, &[]).ok()?;
     Some(answers_with(own.open(&[], &path), commit_secret))
 }
 
@@ -148,7 +154,7 @@ fn update(tree: &mut PublicTree, leaf: LeafNode) -> Option<()> {
 }
 
 /// A tree of four, in which leaf 3 has an empty key.
-fn unfit(alloc: Global) -> Option<Box<PublicTree>> {
+fn tree_with_unfit_key(alloc: Global) -> Option<Box<PublicTree>> {
     let mut tree = four(alloc)?;
     update(&mut tree, leaf(alloc, Vec::new(alloc)))?;
     Some(tree)
@@ -156,16 +162,16 @@ fn unfit(alloc: Global) -> Option<Box<PublicTree>> {
 
 /// Whether a path isn't sealed in that tree since a key isn't fit, in a commit that added these leaves.
 fn refuses(alloc: Global, added: &[u32]) -> bool {
-    match unfit(alloc) {
-        Some(tree) => number_of(sealed(alloc, &tree, added)) == TreeKemError::BadKey.number(),
+    match tree_with_unfit_key(alloc) {
+        Some(tree) => number_of(seal_path(alloc, &tree, added)) == TreeKemError::BadKey.number(),
         None => false,
     }
 }
 
 /// Whether a path of so many nodes is sealed in that tree, in a commit that added these leaves.
 fn seals(alloc: Global, added: &[u32], count: usize) -> Option<bool> {
-    let tree = unfit(alloc)?;
-    Some(sealed(alloc, &tree, added).ok()?.len() == count)
+    let tree = tree_with_unfit_key(alloc)?;
+    Some(seal_path(alloc, &tree, added).ok()?.len() == count)
 }
 
 #[test]

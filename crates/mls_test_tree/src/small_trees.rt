@@ -12,7 +12,7 @@ use mls_types::UpdatePathNode;
 use std::alloc::Global;
 
 /// A value in a box.
-pub(crate) fn boxed<T: Drop>(alloc: Global, value: T) -> Option<Box<T>> {
+pub(crate) fn in_box<T: Drop>(alloc: Global, value: T) -> Option<Box<T>> {
     Box::new(alloc, value).ok()
 }
 
@@ -66,7 +66,7 @@ pub(crate) fn member(alloc: Global, byte: u8) -> Option<LeafNode> {
 
 /// The tree of one member, whose private key is 32 such bytes.
 pub(crate) fn single(alloc: Global, byte: u8) -> Option<Box<PublicTree>> {
-    boxed(alloc, PublicTree::single(alloc, member(alloc, byte)?).ok()?)
+    in_box(alloc, PublicTree::single(alloc, member(alloc, byte)?).ok()?)
 }
 
 /// Adds a member whose private key is 32 such bytes.
@@ -85,7 +85,7 @@ pub(crate) fn four(alloc: Global) -> Option<Box<PublicTree>> {
 
 /// Member i, whose only private key is 32 such bytes.
 pub(crate) fn with_key(alloc: Global, i: u32, byte: u8) -> Option<Box<PrivatePath>> {
-    boxed(alloc, PrivatePath::new(alloc, i, [byte; 32]))
+    in_box(alloc, PrivatePath::new(alloc, i, [byte; 32]))
 }
 
 /// The secrets of a path of so many nodes.
@@ -94,7 +94,7 @@ pub(crate) fn path_secrets(
     start: &Secret,
     count: usize,
 ) -> Option<Box<PathSecrets>> {
-    boxed(alloc, PathSecrets::new::<Glass>(alloc, start, count).ok()?)
+    in_box(alloc, PathSecrets::new::<Glass>(alloc, start, count).ok()?)
 }
 
 /// Makes a path of these nodes.
@@ -104,7 +104,7 @@ pub(crate) fn make_path(
     start: &Secret,
     filtered: &[u32],
 ) -> Option<Box<PathSecrets>> {
-    boxed(alloc, own.make_path::<Glass>(start, filtered).ok()?)
+    in_box(alloc, own.make_path::<Glass>(start, filtered).ok()?)
 }
 
 /// Follows the edits, with a new key of the leaf where there is one.
@@ -117,7 +117,7 @@ pub(crate) fn follow_edit(
 }
 
 /// Leaf 1's path, sealed in a commit that added these leaves.
-pub(crate) fn sealed_path(
+pub(crate) fn seal_secrets(
     alloc: Global,
     tree: &PublicTree,
     added: &[u32],
@@ -169,7 +169,7 @@ impl OfFour {
 pub(crate) fn of_four(alloc: Global, i: u8) -> Option<Box<OfFour>> {
     let tree = four(alloc)?;
     let path = with_key(alloc, u32::from(i), i)?;
-    boxed(alloc, OfFour { tree, path })
+    in_box(alloc, OfFour { tree, path })
 }
 
 /// Whether there is an answer, and it is true.

@@ -88,7 +88,8 @@ fn infos(rt: HostRuntime) -> Result<(), Fail> {
     answers::<GroupInfo>(&rt, rt.alloc(), INFOS)
 }
 
-fn signed_of_info(alloc: Global, digits: &str) -> Result<Vec<u8>, LeafError> {
+/// What is signed of a GroupInfo.
+fn signed_text_of_info(alloc: Global, digits: &str) -> Result<Vec<u8>, LeafError> {
     let info = value_of::<GroupInfo>(alloc, digits)?;
     info.to_be_signed(alloc)
 }
@@ -96,9 +97,9 @@ fn signed_of_info(alloc: Global, digits: &str) -> Result<Vec<u8>, LeafError> {
 #[test]
 fn signed_infos(rt: HostRuntime) -> Result<(), Fail> {
     laws_of_group_infos();
-    let made = signed_of_info(rt.alloc(), GROUP_INFO);
+    let made = signed_text_of_info(rt.alloc(), GROUP_INFO);
     spells(&rt, rt.alloc(), made, GROUP_INFO_TBS)?;
-    let extended = signed_of_info(rt.alloc(), EXTENDED_INFO);
+    let extended = signed_text_of_info(rt.alloc(), EXTENDED_INFO);
     spells(&rt, rt.alloc(), extended, EXTENDED_INFO_TBS)
 }
 

@@ -6,13 +6,13 @@ use mls_types::*;
 use std::alloc::Global;
 use std::test::Fail;
 
-/// A member of suite f001 and group "g" in epoch 0, with no tree, interim hash aa, epoch secret bb, leaf 2 with key cc, over
-/// it no key and then dd, and signature key ee.
+/// A member of suite f001 and group "g" in epoch 0, with no tree, interim hash aa, epoch secret bb, leaf 2 with key cc,
+/// over it no key and then dd, and signature key ee.
 const MEMBER: &str =
     "0001000001f0010167000000000000000020111111111111111111111111111111111111111111111111111111111111111100000001aa01bb0000000201cc04000101dd01ee0000";
 
-/// The `MEMBER` with two kept proposals, both to remove leaf 5, the second with a key, and a pending commit whose message
-/// is ff.
+/// The `MEMBER` with two kept proposals, both to remove leaf 5, the second with a key, and a pending commit whose
+/// message is ff.
 const FULL_MEMBER: &str =
     "0001000001f0010167000000000000000020111111111111111111111111111111111111111111111111111111111111111100000001aa01bb0000000201cc04000101dd01ee2201aa02bbbb000300000005000000010001aa02bbbb000300000005000000010101cc0101ff0001f0010167000000000000000020111111111111111111111111111111111111111111111111111111111111111100000001aa01bb0000000201cc04000101dd";
 

@@ -87,7 +87,7 @@ fn spelling_with(
 }
 
 /// The spelling of a framed content with the signature aa and, if it is a commit, the tag bb.
-fn signed_with(alloc: Global, framed: &str) -> Result<Vec<u8>, LeafError> {
+fn sign_framed_content(alloc: Global, framed: &str) -> Result<Vec<u8>, LeafError> {
     let content = value_of::<FramedContent>(alloc, framed)?;
     let signature = bytes_of(alloc, "aa")?;
     let tag = bytes_of(alloc, "bb")?;
@@ -99,48 +99,62 @@ fn signed_with(alloc: Global, framed: &str) -> Result<Vec<u8>, LeafError> {
     )
 }
 
-fn framed_of(alloc: Global, signed: &str) -> Result<Vec<u8>, LeafError> {
+/// The spelling of the framed content in a signed one.
+fn framed_part(alloc: Global, signed: &str) -> Result<Vec<u8>, LeafError> {
     let content = value_of::<SignedContent>(alloc, signed)?;
     content.encode_framed_content(alloc)
 }
 
 #[test]
-fn signed_and_framed(rt: HostRuntime) -> Result<(), Fail> {
+fn signing_and_framing(rt: HostRuntime) -> Result<(), Fail> {
     laws_of_signed_contents();
     let alloc = rt.alloc();
     spells(
         &rt,
         alloc,
-        signed_with(alloc, FRAMED_CONTENT),
+        sign_framed_content(alloc, FRAMED_CONTENT),
         SIGNED_CONTENT,
     )?;
-    spells(&rt, alloc, signed_with(alloc, FRAMED_COMMIT), SIGNED_COMMIT)?;
-    spells(&rt, alloc, framed_of(alloc, SIGNED_CONTENT), FRAMED_CONTENT)?;
-    spells(&rt, alloc, framed_of(alloc, SIGNED_COMMIT), FRAMED_COMMIT)
+    spells(
+        &rt,
+        alloc,
+        sign_framed_content(alloc, FRAMED_COMMIT),
+        SIGNED_COMMIT,
+    )?;
+    spells(
+        &rt,
+        alloc,
+        framed_part(alloc, SIGNED_CONTENT),
+        FRAMED_CONTENT,
+    )?;
+    spells(&rt, alloc, framed_part(alloc, SIGNED_COMMIT), FRAMED_COMMIT)
 }
 
-fn signed_of_framed(alloc: Global, context: &GroupContext) -> Result<Vec<u8>, LeafError> {
+/// What is signed of a framed content.
+fn signed_text_of_framed(alloc: Global, context: &GroupContext) -> Result<Vec<u8>, LeafError> {
     let content = value_of::<FramedContent>(alloc, FRAMED_CONTENT)?;
     content.to_be_signed(alloc, WireFormat::PublicMessage, context)
 }
 
-fn signed_of_content(alloc: Global, context: &GroupContext) -> Result<Vec<u8>, LeafError> {
+/// What is signed of a signed content.
+fn signed_text_of_content(alloc: Global, context: &GroupContext) -> Result<Vec<u8>, LeafError> {
     let content = value_of::<SignedContent>(alloc, SIGNED_CONTENT)?;
     content.to_be_signed(alloc, WireFormat::PublicMessage, context)
 }
 
-fn tagged_of_content(alloc: Global, context: &GroupContext) -> Result<Vec<u8>, LeafError> {
+/// What is tagged of a signed content.
+fn tagged_text_of_content(alloc: Global, context: &GroupContext) -> Result<Vec<u8>, LeafError> {
     let content = value_of::<SignedContent>(alloc, SIGNED_CONTENT)?;
     content.to_be_tagged(alloc, WireFormat::PublicMessage, context)
 }
 
 #[test]
-fn signed_and_tagged(rt: HostRuntime) -> Result<(), Fail> {
+fn signing_and_tagging(rt: HostRuntime) -> Result<(), Fail> {
     let alloc = rt.alloc();
     let context = value_of::<GroupContext>(alloc, GROUP_CONTEXT)?;
-    let framed = signed_of_framed(alloc, &context);
-    let content = signed_of_content(alloc, &context);
-    let tagged = tagged_of_content(alloc, &context);
+    let framed = signed_text_of_framed(alloc, &context);
+    let content = signed_text_of_content(alloc, &context);
+    let tagged = tagged_text_of_content(alloc, &context);
     drop(context);
     spells(&rt, alloc, framed, FRAMED_CONTENT_TBS)?;
     spells(&rt, alloc, content, FRAMED_CONTENT_TBS)?;

@@ -219,7 +219,8 @@ fn fill(bytes: &mut Vec<u8>, behind: usize) -> Result<(), AllocError> {
     bytes.resize(INPUT_LIMIT.saturating_sub(behind), 0)
 }
 
-/// A message as long as an input may be: these in front, then a byte string of zeros that fills it up, and these behind it.
+/// A message as long as an input may be: these in front, then a byte string of zeros that fills it up, and these behind
+/// it.
 fn fill_message(alloc: Global, front: &str, behind: &str) -> Result<Vec<u8>, AllocError> {
     let mut bytes = bytes_of(alloc, front)?;
     let behind = bytes_of(alloc, behind)?;

@@ -104,7 +104,7 @@ fn an_update_by_reference(rt: HostRuntime) -> Result<(), Fail> {
 
 // Given bytes are followed before they are made here: the journal becomes homemade, and the maker joins it.
 #[test]
-fn followed_before_it_is_made(rt: HostRuntime) -> Result<(), Fail> {
+fn a_commit_followed_before_it_is_made(rt: HostRuntime) -> Result<(), Fail> {
     let alloc = rt.alloc();
     let commit = [(Act::Commit(0, Parts::Nothing, true, 6), Said::Commit(4))];
     let mut twin = two_members(&rt, alloc)?;

@@ -171,7 +171,7 @@ fn event_of(alloc: Global, act: Act) -> Result<Event, OutOfMemory> {
     }
 }
 
-fn said_of_effect(effect: Effect) -> Said {
+fn say_effect(effect: Effect) -> Said {
     match effect {
         Effect::Proposed { .. } => Said::Proposed,
         Effect::Known { .. } => Said::Known,
@@ -180,7 +180,7 @@ fn said_of_effect(effect: Effect) -> Said {
     }
 }
 
-fn said_of_reply(reply: Reply) -> Said {
+fn say_reply(reply: Reply) -> Said {
     match reply {
         Reply::Candidate { candidate, message } => Said::Candidate(candidate, message),
         Reply::Created { member } => Said::Created(member),
@@ -194,7 +194,7 @@ fn said_of_reply(reply: Reply) -> Said {
             welcome: Some(welcome),
         } => Said::Welcome(message, welcome),
         Reply::Dropped { pending } => Said::Dropped(pending),
-        Reply::Delivered { effect: e } => said_of_effect(e),
+        Reply::Delivered { effect: e } => say_effect(e),
         Reply::Joined { member, epoch } => Said::Joined(member, epoch),
         Reply::Refused { number } => Said::Refused(number),
     }
@@ -215,7 +215,7 @@ fn run(
     world.run(&events, &mut replies)?;
     assert_eq!(rt; replies.len(), acts.len());
     for (reply, (_, wanted)) in replies.iter().zip(acts) {
-        assert_eq!(rt; said_of_reply(*reply), *wanted);
+        assert_eq!(rt; say_reply(*reply), *wanted);
     }
     Ok(())
 }
@@ -281,7 +281,7 @@ fn call_commit_or_delivery(world: &mut World<Glass>, event: &Event) -> Result<Sa
             }
         }
         Event::DropPending { member } => Ok(Said::Dropped(world.drop_pending(*member)?)),
-        Event::Deliver { member, bytes } => Ok(said_of_effect(world.deliver(*member, bytes)?)),
+        Event::Deliver { member, bytes } => Ok(say_effect(world.deliver(*member, bytes)?)),
         _ => Ok(Said::Refused(0)),
     }
 }

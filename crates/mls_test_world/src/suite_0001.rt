@@ -17,8 +17,9 @@ use mls_suite_0001::Suite0001;
 use mls_world::World;
 use std::alloc::Global;
 
-/// Makes the world that a list of events leaves under suite 0x0001, with a reply to each. Two of its members that weren't
-/// removed, and whose journals are one homemade journal, hold one epoch secret and the nine secrets that it gives.
+/// Makes the world that a list of events leaves under suite 0x0001, with a reply to each. Two of its members that
+/// weren't removed, and whose journals are one homemade journal, hold one epoch secret and the nine secrets that it
+/// gives.
 pub fn run_under_suite_0001(
     alloc: Global,
     events: &[Event],

@@ -6,7 +6,7 @@ use mls_tree::{Hash, PublicTree, TreeError};
 use std::alloc::{AllocError, Global};
 
 /// No numbers, where the edit was made.
-fn done(alloc: Global, outcome: Result<(), TreeError>) -> Result<Vec<u64>, TreeError> {
+fn no_numbers(alloc: Global, outcome: Result<(), TreeError>) -> Result<Vec<u64>, TreeError> {
     match outcome {
         Ok(()) => Ok(Vec::new(alloc)),
         Err(error) => Err(error),
@@ -51,11 +51,11 @@ pub(crate) fn update(
     i: u32,
     key: u8,
 ) -> Result<Vec<u64>, TreeError> {
-    done(alloc, tree.update(i, member(alloc, key)?))
+    no_numbers(alloc, tree.update(i, member(alloc, key)?))
 }
 
 pub(crate) fn remove(alloc: Global, tree: &mut PublicTree, i: u32) -> Result<Vec<u64>, TreeError> {
-    done(alloc, tree.remove(i))
+    no_numbers(alloc, tree.remove(i))
 }
 
 /// So many bytes of this value.
@@ -119,7 +119,7 @@ fn merge_keys(
     length: usize,
 ) -> Result<Vec<u64>, TreeError> {
     let keys = keys_of(alloc, bytes, length)?;
-    done(alloc, merge_path(tree, i, leaf, keys))
+    no_numbers(alloc, merge_path(tree, i, leaf, keys))
 }
 
 pub(crate) fn merge(

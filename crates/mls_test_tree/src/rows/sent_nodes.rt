@@ -5,7 +5,7 @@ ghost use Rattle.mls_tree.specs.ShortLeaves.{AreShort, HasShortLeaves};
 ghost use Rattle.mls_tree.specs.Tree.{term};
 
 use crate::rows::edits::number;
-use crate::rows::trees::boxed;
+use crate::rows::trees::in_box;
 use mls_leaf::{Codec, LeafError};
 use mls_suite::Glass;
 use mls_tree::{PublicTree, TreeError};
@@ -40,7 +40,7 @@ fn slots_of(alloc: Global, digits: &[&str]) -> Result<Vec<Slot>, AllocError> {
 /// The tree of the nodes that hex digits spell.
 pub(crate) fn tree_of_digits(alloc: Global, digits: &[&str]) -> Result<Box<PublicTree>, TreeError> {
     let tree = PublicTree::from_nodes(slots_of(alloc, digits)?)?;
-    Ok(boxed(alloc, tree)?)
+    Ok(in_box(alloc, tree)?)
 }
 
 /// The nodes of the tree as they are sent.

@@ -43,20 +43,20 @@ pub(crate) fn member(alloc: Global, key: u8) -> Result<LeafNode, AllocError> {
 
 /// A tree in a box, so that the proof of a test, which drops it at each call that may fail, goes into none of its
 /// parts.
-pub(crate) fn boxed(alloc: Global, tree: PublicTree) -> Result<Box<PublicTree>, AllocError> {
+pub(crate) fn in_box(alloc: Global, tree: PublicTree) -> Result<Box<PublicTree>, AllocError> {
     Ok(Box::new(alloc, tree)?)
 }
 
 /// The tree of one member with this key.
 pub(crate) fn single(alloc: Global, key: u8) -> Result<Box<PublicTree>, TreeError> {
     let tree = PublicTree::single(alloc, member(alloc, key)?)?;
-    Ok(boxed(alloc, tree)?)
+    Ok(in_box(alloc, tree)?)
 }
 
 /// The tree of these nodes.
 fn tree_of(alloc: Global, nodes: Vec<Slot>) -> Result<Box<PublicTree>, TreeError> {
     let tree = PublicTree::from_nodes(nodes)?;
-    Ok(boxed(alloc, tree)?)
+    Ok(in_box(alloc, tree)?)
 }
 
 /// The place of a member with this key.
@@ -144,5 +144,5 @@ pub(crate) fn odd_tree(alloc: Global) -> Result<Box<PublicTree>, TreeError> {
 
 /// A copy of the tree.
 pub(crate) fn copy_of(alloc: Global, tree: &PublicTree) -> Result<Box<PublicTree>, AllocError> {
-    boxed(alloc, tree.clone()?)
+    in_box(alloc, tree.clone()?)
 }
