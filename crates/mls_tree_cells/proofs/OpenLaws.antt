@@ -1,12 +1,12 @@
 -- What chunks and tops say of the cells that they are seen as, and edits of them.
-use Rattle.std.proofs.Common.{◌≡◌, ℕ, suc, ◌+◌, ◌*◌, ◌/◌, ◌%◌, ◌<◌, ◌≤◌, Bool, true, false, List, [], ◌∷◌, ◌++◌, map, length, get_or, take, set, Option, None, Result, Ok, Err, OnOk, OnErr, refl, sym, ◌∙◌, ap, subst, arith}
+use Rattle.std.proofs.Common.{◌≡◌, ℕ, suc, ◌/◌, ◌%◌, ◌<◌, ◌≤◌, true, false, List, [], ◌∷◌, ◌++◌, length, get_or, take, set, Option, None, Result, Ok, Err, OnOk, OnErr, sym, ◌∙◌, ap, subst, arith}
 use Rattle.std.proofs.lemmas.List.{get_or_default, map-append, take-map}
 use Rattle.mls_leaf.specs.declared.node.Node.{Node}
 use Rattle.mls_tree_cells.specs.Cells.{CellList}
 use Rattle.mls_tree_cells.specs.Chunks.{ChunkRow}
 use Rattle.mls_tree_cells.specs.Rows.{AddsCell, SetsSlot, first_cells}
-use Rattle.mls_tree_cells.specs.Parts.{AreParts, EndsIn, IsOpen, PartList, StaysOpen, all_cells, rows_of, shares_of}
-use Rattle.mls_tree_cells.proofs.PartLaws.{no_cells, rows_stay, row_at, share_at, rows_set, shares_set, row_count, row_within, tops_within, node_below, node_above, hash_below, hash_above, put_below, parts_put_below, keep_below, parts_keep_below, put_above, parts_put_above, keep_above, parts_keep_above, count_of, last_row, push_below, parts_push_below, push_above, parts_push_above, parts_front, front_same, front_ends, cut_row, cut_below, parts_cut}
+use Rattle.mls_tree_cells.specs.Parts.{AreParts, EndsIn, IsOpen, PartList, all_cells, rows_of, shares_of}
+use Rattle.mls_tree_cells.proofs.PartLaws.{no_cells, rows_stay, row_at, share_at, rows_set, row_count, row_within, tops_within, node_below, node_above, hash_below, hash_above, put_below, parts_put_below, keep_below, parts_keep_below, put_above, parts_put_above, keep_above, parts_keep_above, count_of, push_below, parts_push_below, push_above, parts_push_above, parts_front, front_same, front_ends, cut_row, cut_below, parts_cut}
 
 -- what chunks and tops are seen as
 abbrev pub seen : List ChunkRow → CellList → PartList

@@ -1,6 +1,5 @@
 -- Edits of cells that stand side by side.
-use Rattle.std.specs.Prelude.{◌≡◌, ℕ, Bool, true, false, List, [], ◌∷◌, ◌++◌, take, replicate, slice_set, Option, None, is_some}
-use Rattle.std.specs.Bool.{MatchBool}
+use Rattle.std.specs.Prelude.{◌≡◌, ℕ, Bool, true, false, [], ◌∷◌, ◌++◌, take, replicate, slice_set, Option, None, is_some}
 use Rattle.std.specs.List.{All}
 use Rattle.mls_leaf.specs.declared.node.Node.{Node}
 use Rattle.mls_tree_cells.specs.Cells.{CellList}

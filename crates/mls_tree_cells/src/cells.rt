@@ -37,8 +37,11 @@ impl Model for Cells {
 impl Cells {
     /// Cells with these slots, all cold.
     pub fn from_slots(slots: Vec<Slot>) -> Result<Cells, AllocError>
-        ensures { IfOk result (λ c. c ≡ record { nodes = slots.items; hashes =
-            replicate (length slots.items) None }) }
+        ensures { IfOk result (λ c. c ≡ record {
+          nodes = slots.items;
+          hashes =
+              replicate (length slots.items) None;
+        }) }
     {
         let mut parts = Parts::new(*slots.allocator())?;
         let len = slots.len();
@@ -67,7 +70,11 @@ impl Cells {
             option_copied result ≡ Some (get_or self.now.nodes x None) }
         ensures past { length self.now.nodes ≤ x → option_copied result ≡ None }
     {
-        if x < self.len { Some(self.parts.slot(x)) } else { None }
+        if x < self.len {
+            Some(self.parts.slot(x))
+        } else {
+            None
+        }
     }
 
     /// The slot of cell x.

@@ -150,8 +150,12 @@ impl Chunk {
     pub(crate) fn keep_hash(&mut self, x: usize, hash: Hash)
         requires within { x < length self.old.row.nodes }
         requires cold { get_or self.old.row.hashes x (Some []) ≡ None }
-        ensures { self.new ≡ record self.old { row = record self.old.row { hashes =
-            slice_set self.old.row.hashes x (Some hash) } } }
+        ensures { self.new ≡ record self.old {
+          row = record self.old.row {
+            hashes =
+                slice_set self.old.row.hashes x (Some hash);
+          };
+        } }
     {
         match &mut self.holder {
             Holder::Own(row) => row.keep_hash(x, hash),

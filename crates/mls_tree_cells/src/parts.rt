@@ -145,8 +145,10 @@ impl Parts {
     pub(crate) fn keep_hash(&mut self, x: usize, hash: Hash)
         requires within { x < length self.old.cells.nodes }
         requires cold { get_or self.old.cells.hashes x (Some []) ≡ None }
-        ensures { self.new.cells ≡ record self.old.cells { hashes =
-            slice_set self.old.cells.hashes x (Some hash) } }
+        ensures { self.new.cells ≡ record self.old.cells {
+          hashes =
+              slice_set self.old.cells.hashes x (Some hash);
+        } }
     {
         let offset = x % CHUNK_SIZE;
         if offset < TOP {

@@ -1,4 +1,4 @@
-use Rattle.std.proofs.Common.{◌≡◌, ◌<◌, length, ◌∙◌, arith}
+use Rattle.std.proofs.Common.{◌<◌, length, ◌∙◌, arith}
 use Rattle.mls_tree_cells.proofs.PartLaws.{rows_stay}
 use Rattle.mls_tree_cells.proofs.parts.share_all.Goals as goal
 

@@ -1,4 +1,4 @@
-use Rattle.std.proofs.Common.{◌≡◌, ◌+◌, ◌<◌, ◌≤◌, List, [], ◌∷◌, ◌++◌, length, get_or, take, replicate, Some, None, refl, sym, ◌∙◌, ap, subst, arith}
+use Rattle.std.proofs.Common.{Some, ◌∙◌, ap, arith}
 use Rattle.mls_tree_cells.proofs.CellLaws.{seen_nodes, cell_within, node_is}
 use Rattle.mls_tree_cells.proofs.cells.Cells.get.Goals as goal
 

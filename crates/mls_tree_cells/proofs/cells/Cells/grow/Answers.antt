@@ -1,4 +1,4 @@
-use Rattle.std.proofs.Common.{◌≡◌, ◌+◌, ◌<◌, ◌≤◌, List, [], ◌∷◌, ◌++◌, length, get_or, take, replicate, Some, None, refl, sym, ◌∙◌, ap, subst, arith}
+use Rattle.std.proofs.Common.{sym, ◌∙◌, ap, subst}
 use Rattle.mls_tree_cells.specs.Rows.{AddsBlanks, first_cells}
 use Rattle.mls_tree_cells.specs.Parts.{EndsIn}
 use Rattle.mls_tree_cells.proofs.CellLaws.{back_is, grow_ends, grow_is, mid_within}

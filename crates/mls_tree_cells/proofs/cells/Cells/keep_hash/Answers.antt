@@ -1,4 +1,4 @@
-use Rattle.std.proofs.Common.{◌≡◌, ◌+◌, ◌<◌, ◌≤◌, List, [], ◌∷◌, ◌++◌, length, get_or, take, replicate, Some, None, refl, sym, ◌∙◌, ap, subst, arith}
+use Rattle.std.proofs.Common.{[], Some, ◌∙◌}
 use Rattle.mls_tree_cells.proofs.CellLaws.{cell_within, hash_is, keep_is, keep_ends}
 use Rattle.mls_tree_cells.proofs.cells.Cells.keep_hash.Goals as goal
 

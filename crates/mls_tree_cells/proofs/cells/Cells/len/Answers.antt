@@ -1,4 +1,4 @@
-use Rattle.std.proofs.Common.{◌≡◌, ◌+◌, ◌<◌, ◌≤◌, List, [], ◌∷◌, ◌++◌, length, get_or, take, replicate, Some, None, refl, sym, ◌∙◌, ap, subst, arith}
+use Rattle.std.proofs.Common.{sym}
 use Rattle.mls_tree_cells.proofs.CellLaws.{seen_nodes, seen_hashes}
 use Rattle.mls_tree_cells.proofs.cells.Cells.len.Goals as goal
 

@@ -1,6 +1,5 @@
-use Rattle.std.proofs.Common.{◌≡◌, ◌+◌, ◌<◌, ◌≤◌, List, [], ◌∷◌, ◌++◌, length, get_or, take, replicate, Some, None, refl, sym, ◌∙◌, ap, subst, arith}
+use Rattle.std.proofs.Common.{◌<◌, length, sym, ◌∙◌, ap, subst}
 use Rattle.std.specs.List.{All}
-use Rattle.mls_leaf.specs.declared.node.Node.{Node}
 use Rattle.mls_tree_cells.specs.Cells.{CellList, Puts}
 use Rattle.mls_tree_cells.specs.Parts.{EndsIn, IsOpen}
 use Rattle.mls_tree_cells.specs.Rows.{first_cells}

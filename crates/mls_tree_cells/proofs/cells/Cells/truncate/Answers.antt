@@ -1,4 +1,4 @@
-use Rattle.std.proofs.Common.{◌≡◌, ◌+◌, ◌<◌, ◌≤◌, List, [], ◌∷◌, ◌++◌, length, get_or, take, replicate, Some, None, refl, sym, ◌∙◌, ap, subst, arith}
+use Rattle.std.proofs.Common.{arith}
 use Rattle.mls_tree_cells.proofs.CellLaws.{truncate_is, truncate_none}
 use Rattle.mls_tree_cells.proofs.cells.Cells.truncate.Goals as goal
 

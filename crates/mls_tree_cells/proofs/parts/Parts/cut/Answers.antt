@@ -1,4 +1,4 @@
-use Rattle.std.proofs.Common.{◌≡◌, ◌+◌, ◌-◌, ◌/◌, ◌%◌, ◌<◌, ◌≤◌, true, false, List, [], ◌∷◌, ◌++◌, length, get_or, take, set, Some, None, refl, sym, ◌∙◌, ap, subst, arith, add-one}
+use Rattle.std.proofs.Common.{arith}
 use Rattle.mls_tree_cells.proofs.OpenLaws.{cut_last_is, cut_any_parts, cut_ok, cut_err}
 use Rattle.mls_tree_cells.proofs.parts.Parts.cut.Goals as goal
 

@@ -1,4 +1,4 @@
-use Rattle.std.proofs.Common.{◌≡◌, ◌+◌, ◌-◌, ◌/◌, ◌%◌, ◌<◌, ◌≤◌, true, false, List, [], ◌∷◌, ◌++◌, length, get_or, take, set, Some, None, refl, sym, ◌∙◌, ap, subst, arith, add-one}
+use Rattle.std.proofs.Common.{◌/◌, take, ◌∙◌, ap, add-one}
 use Rattle.mls_tree_cells.proofs.OpenLaws.{drop_parts, drop_same, drop_ends}
 use Rattle.mls_tree_cells.proofs.parts.Parts.drop_behind.Goals as goal
 

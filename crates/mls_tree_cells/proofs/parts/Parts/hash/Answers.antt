@@ -1,4 +1,4 @@
-use Rattle.std.proofs.Common.{◌≡◌, ◌+◌, ◌-◌, ◌/◌, ◌%◌, ◌<◌, ◌≤◌, true, false, List, [], ◌∷◌, ◌++◌, length, get_or, take, set, Some, None, refl, sym, ◌∙◌, ap, subst, arith, add-one}
+use Rattle.std.proofs.Common.{◌%◌, ◌<◌, length, get_or, None, sym, ◌∙◌, ap, subst, arith}
 use Rattle.mls_tree_cells.specs.Cells.{CellList}
 use Rattle.mls_tree_cells.proofs.OpenLaws.{chunk_in, top_in, row_long, hash_of_row, hash_of_top}
 use Rattle.mls_tree_cells.proofs.parts.Parts.hash.Goals as goal

@@ -1,4 +1,4 @@
-use Rattle.std.proofs.Common.{◌≡◌, ◌+◌, ◌-◌, ◌/◌, ◌%◌, ◌<◌, ◌≤◌, true, false, List, [], ◌∷◌, ◌++◌, length, get_or, take, set, Some, None, refl, sym, ◌∙◌, ap, subst, arith, add-one}
+use Rattle.std.proofs.Common.{[], Some, ◌∙◌, arith}
 use Rattle.mls_tree_cells.proofs.OpenLaws.{chunk_in, top_in, row_long, hash_of_row, keep_row, keep_row_parts, keep_top, keep_top_parts}
 use Rattle.mls_tree_cells.proofs.parts.Parts.keep_hash.Goals as goal
 

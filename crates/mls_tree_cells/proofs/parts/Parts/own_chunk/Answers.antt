@@ -1,6 +1,6 @@
-use Rattle.std.proofs.Common.{◌≡◌, ◌+◌, ◌-◌, ◌/◌, ◌%◌, ◌<◌, ◌≤◌, true, false, List, [], ◌∷◌, ◌++◌, length, get_or, take, set, Some, None, refl, sym, ◌∙◌, ap, subst, arith, add-one}
+use Rattle.std.proofs.Common.{◌/◌, List, set, sym, ◌∙◌, ap, subst, arith}
 use Rattle.mls_tree_cells.specs.Cells.{CellList}
-use Rattle.mls_tree_cells.specs.Parts.{AreParts, IsOpen, PartList, StaysOpen, all_cells, rows_of, shares_of}
+use Rattle.mls_tree_cells.specs.Parts.{AreParts, PartList, StaysOpen, all_cells, shares_of}
 use Rattle.mls_tree_cells.proofs.PartLaws.{rows_stay, own_here, stays_open}
 use Rattle.mls_tree_cells.proofs.OpenLaws.{chunk_in}
 use Rattle.mls_tree_cells.proofs.parts.Parts.own_chunk.Goals as goal

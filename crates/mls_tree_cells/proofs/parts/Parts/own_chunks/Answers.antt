@@ -1,4 +1,4 @@
-use Rattle.std.proofs.Common.{◌≡◌, ◌+◌, ◌<◌, length, get_or, take, sym, ◌∙◌, ap, subst, arith, take_all}
+use Rattle.std.proofs.Common.{length, take, ◌∙◌, ap, subst, arith, take_all}
 use Rattle.std.specs.List.{All}
 use Rattle.std.proofs.lemmas.List.Elements.{All-more, All-weaker}
 use Rattle.mls_tree_cells.specs.Cells.{CellList}

@@ -1,4 +1,4 @@
-use Rattle.std.proofs.Common.{◌≡◌, ℕ, ◌+◌, List, [], ◌∷◌, ◌++◌, replicate, None, refl, sym, ◌∙◌, ap, subst, append-nil}
+use Rattle.std.proofs.Common.{ℕ}
 use Rattle.mls_tree_cells.specs.Rows.{AddsBlanks}
 use Rattle.mls_tree_cells.proofs.CellLaws.{no_blanks, one_blank, blanks_stay}
 use Rattle.mls_tree_cells.proofs.OpenLaws.{on_err}

@@ -1,5 +1,5 @@
-use Rattle.std.proofs.Common.{◌≡◌, ◌+◌, ◌-◌, ◌/◌, ◌%◌, ◌<◌, ◌≤◌, true, false, List, [], ◌∷◌, ◌++◌, length, get_or, take, set, Some, None, refl, sym, ◌∙◌, ap, subst, arith, add-one}
-use Rattle.mls_tree_cells.specs.Parts.{PartList, shares_of}
+use Rattle.std.proofs.Common.{◌/◌, sym, ◌∙◌, ap, arith}
+use Rattle.mls_tree_cells.specs.Parts.{PartList}
 use Rattle.mls_tree_cells.proofs.PartLaws.{shares_stay}
 use Rattle.mls_tree_cells.proofs.OpenLaws.{chunk_in, top_in, row_long, own_if_open, put_row, put_row_parts, put_top, put_top_parts}
 use Rattle.mls_tree_cells.proofs.parts.Parts.put.Goals as goal

@@ -1,4 +1,4 @@
-use Rattle.std.proofs.Common.{◌≡◌, ◌+◌, ◌-◌, ◌/◌, ◌%◌, ◌<◌, ◌≤◌, true, false, List, [], ◌∷◌, ◌++◌, length, get_or, take, set, Some, None, refl, sym, ◌∙◌, ap, subst, arith, add-one}
+use Rattle.std.proofs.Common.{List, sym, ◌∙◌, ap, subst}
 use Rattle.mls_tree_cells.specs.Cells.{CellList}
 use Rattle.mls_tree_cells.specs.Parts.{AreParts, PartList, all_cells}
 use Rattle.mls_tree_cells.proofs.parts.Parts.share.Goals as goal
