@@ -1,6 +1,6 @@
 //! Where a ratchet tree first breaks a rule that is asked of each parent.
 
-ghost use Rattle.std.specs.Prelude.{◌≡◌, ◌≤◌, true, length, IfOk};
+ghost use Rattle.std.specs.Prelude.{◌≡◌, ◌≤◌, true, None, length, replicate, IfOk};
 ghost use Rattle.mls_treemath.specs.Limits.{max_height};
 ghost use Rattle.mls_treemath.specs.Paths.{nodes_in};
 ghost use Rattle.mls_tree_model.specs.Arrays.{term_of};
@@ -8,7 +8,8 @@ ghost use Rattle.mls_tree_model.specs.FirstParents.{first_wrong_hash};
 ghost use Rattle.mls_tree_model.specs.Good.{has_good_lists};
 ghost use Rattle.mls_cli_place.specs.Parents.{first_sent, first_wrong};
 
-use mls_tree_array::{self as array, HashedSubtree, Hashes, Subtree};
+use mls_tree_array::{self as array, HashedSubtree, Subtree};
+use mls_tree_cells::Cells;
 use mls_tree_slot::Slot;
 use mls_treemath::MAX_HEIGHT;
 use std::alloc::{AllocError, Global};
@@ -23,37 +24,38 @@ pub(crate) enum ParentRule {
 }
 
 /// The first parent that isn't parent-hash valid, where all lists of unmerged leaves are right.
-fn wrong_hash(alloc: Global, nodes: &[Slot], height: u32) -> Result<Option<u32>, AllocError>
-    requires shape { length nodes.now ≡ nodes_in height }
+fn wrong_hash(alloc: Global, cells: Cells, height: u32) -> Result<Option<u32>, AllocError>
+    requires shape { length cells.nodes ≡ nodes_in height }
+    requires cold { cells.hashes ≡ replicate (nodes_in height) None }
     requires low { height ≤ max_height }
-    requires lists { has_good_lists (term_of height nodes.now) ≡ true }
-    ensures { IfOk result (λ found. found ≡ first_wrong_hash (term_of height nodes.now)) }
+    requires lists { has_good_lists (term_of height cells.nodes) ≡ true }
+    ensures { IfOk result (λ found. found ≡ first_wrong_hash (term_of height cells.nodes)) }
 {
-    let mut hashes = Hashes::new_cold(alloc, nodes.len())?;
-    let _tree_hash = hashes.fill(nodes, height);
-    let tree = HashedSubtree::of(Subtree::of(nodes, height), hashes.as_slice());
-    array::first_wrong_hash(alloc, &tree)
+    let mut cells = cells;
+    let mut done = 0;
+    let _tree_hash = array::tree_hash(&mut cells, height, &mut done);
+    array::first_wrong_hash(alloc, &HashedSubtree::of(&cells, height))
 }
 
 /// The first parent of a whole tree that breaks a rule. Hashes are looked at where all lists are right.
 fn first_in_tree(
     alloc: Global,
     rule: ParentRule,
-    nodes: &[Slot],
+    cells: Cells,
     height: u32,
 ) -> Result<Option<u32>, AllocError>
-    requires shape { length nodes.now ≡ nodes_in height }
+    requires shape { length cells.nodes ≡ nodes_in height }
+    requires cold { cells.hashes ≡ replicate (nodes_in height) None }
     requires low { height ≤ max_height }
-    ensures { IfOk result (λ found. found ≡ first_wrong rule (term_of height nodes.now)) }
+    ensures { IfOk result (λ found. found ≡ first_wrong rule (term_of height cells.nodes)) }
 {
-    let tree = Subtree::of(nodes, height);
     match rule {
-        ParentRule::Lists => Ok(array::first_wrong_list(&tree)),
+        ParentRule::Lists => Ok(array::first_wrong_list(&Subtree::of(&cells, height))),
         ParentRule::Hashes => {
-            if !array::has_good_lists(&tree) {
+            if !array::has_good_lists(&Subtree::of(&cells, height)) {
                 return Ok(None);
             }
-            wrong_hash(alloc, nodes, height)
+            wrong_hash(alloc, cells, height)
         }
     }
 }
@@ -74,5 +76,6 @@ pub(crate) fn first_wrong_parent(
     }
     let mut whole = Vec::from_clones(alloc, nodes)?;
     array::pad_tree(&mut whole, height)?;
-    first_in_tree(alloc, rule, whole.as_slice(), height)
+    let cells = Cells::from_slots(whole)?;
+    first_in_tree(alloc, rule, cells, height)
 }

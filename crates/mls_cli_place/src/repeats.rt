@@ -5,6 +5,7 @@ ghost use Rattle.mls_tree_index.specs.Keys.{keys_of};
 ghost use Rattle.mls_tree_model.specs.Sets.{is_distinct, same_bytes};
 ghost use Rattle.mls_cli_place.specs.TreePlace.{IsFirstFailing, has_new_key};
 
+use mls_tree_cells::Cells;
 use mls_tree_index::{Index, KeyKind};
 use mls_tree_slot::Slot;
 use std::alloc::{AllocError, Global};
@@ -20,7 +21,8 @@ fn are_distinct_to(
     requires few { length nodes.now < 2 ^ 32 }
     ensures { IfOk result (λ v. v ≡ is_distinct same_bytes (keys_of kind (take end nodes.now))) }
 {
-    let index = Index::build(alloc, kind, &nodes[..end])?;
+    let cells = Cells::from_slots(Vec::from_clones(alloc, &nodes[..end])?)?;
+    let index = Index::build(alloc, kind, &cells)?;
     Ok(index.are_distinct())
 }
 

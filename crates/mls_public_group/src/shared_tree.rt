@@ -40,6 +40,7 @@ impl SharedTree {
     {
         let mut tree = tree;
         let hash = tree.tree_hash();
+        tree.share();
         match Rc::new(alloc, tree) {
             Ok(tree) => Ok(SharedTree { tree, hash }),
             // Want of memory: the place behind the pointer, which fails for nothing else.
@@ -72,6 +73,7 @@ impl SharedTree {
         let hash = path.tree_hash();
         let tree = Rc::make_mut(&mut self.tree)?;
         tree.follow_path(path)?;
+        tree.share();
         self.hash = hash;
         Ok(())
     }

@@ -1,5 +1,5 @@
 use mls_checks::{CheckError, LeafUse, check_replacement, key_package};
-use mls_leaf::{Codec, KeyPackage, LeafNode};
+use mls_leaf::{Codec, KeyPackage, LeafError, LeafNode};
 use mls_suite::Glass;
 use std::alloc::Global;
 use std::test::Fail;
@@ -150,16 +150,27 @@ fn offered(alloc: Global, bytes: &[u8]) -> Result<u8, Fail> {
         return Err("too long".into());
     }
     let offered = KeyPackage::decode(alloc, bytes)?;
-    Ok(number_of(key_package::<Glass>(alloc, &offered))?)
+    let answer = key_package::<Glass>(alloc, &offered);
+    drop(offered);
+    Ok(number_of(answer)?)
+}
+
+/// The leaf that is replaced, in a box.
+fn old_leaf(alloc: Global, bytes: &[u8]) -> Result<Box<LeafNode>, LeafError> {
+    let leaf = LeafNode::decode(alloc, bytes)?;
+    Ok(Box::new(alloc, leaf)?)
 }
 
 fn put_in(alloc: Global, new: &[u8], old: &[u8], source: LeafUse, index: u32) -> Result<u8, Fail> {
     if new.len() > 1000 {
         return Err("too long".into());
     }
+    let old = old_leaf(alloc, old)?;
     let new = LeafNode::decode(alloc, new)?;
-    let old = LeafNode::decode(alloc, old)?;
-    Ok(number_of(check_replacement::<Glass>(alloc, &new, &old, source, b"g", index))?)
+    let answer = check_replacement::<Glass>(alloc, &new, &old, source, b"g", index);
+    drop(new);
+    drop(old);
+    Ok(number_of(answer)?)
 }
 
 #[test]

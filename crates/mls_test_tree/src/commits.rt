@@ -2,8 +2,8 @@
 //! is opened by members and taken by a joiner.
 
 use crate::small_trees::{
-    answers_with, boxed, follow_edit, four, has_nodes, holds, leaf, make_path, next, open_path,
-    public, sealed_path, take_secret, with_key,
+    answers_with, boxed, follow_edit, four, has_digits, has_nodes, leaf, make_path, next,
+    open_path, public, sealed_path, take_secret, with_key,
 };
 use mls_kdf::Secret;
 use mls_leaf::{Bytes, LeafNode, LeafSource};
@@ -127,11 +127,20 @@ fn opens(commit: &Commit, own: &mut PrivatePath, nodes: &[u64]) -> bool {
     ) && has_nodes(own, nodes)
 }
 
+/// Whether a member opens the path of a new commit, and has keys of these nodes then.
+fn opens_new(alloc: Global, own: &mut PrivatePath, nodes: &[u64]) -> bool {
+    match make_commit(alloc) {
+        Some(commit) => opens(&commit, own, nodes),
+        None => false,
+    }
+}
+
 /// Whether leaf i, who follows the edits, opens the commit's path and has keys of these nodes then.
-fn is_received(alloc: Global, i: u8, nodes: &[u64]) -> Option<bool> {
-    let commit = make_commit(alloc)?;
-    let mut own = follower(alloc, i)?;
-    Some(opens(&commit, &mut own, nodes))
+fn is_received(alloc: Global, i: u8, nodes: &[u64]) -> bool {
+    match follower(alloc, i) {
+        Some(mut own) => opens_new(alloc, &mut own, nodes),
+        None => false,
+    }
 }
 
 /// Whether the commit's path is sealed so often.
@@ -144,16 +153,21 @@ fn is_sealed(alloc: Global, seals: u32) -> bool {
 
 #[test]
 fn received_in_order(rt: HostRuntime) {
-    assert!(rt; holds(is_received(rt.alloc(), 0, &[0, 1, 3])));
-    assert!(rt; holds(is_received(rt.alloc(), 2, &[3, 4])));
+    assert!(rt; is_received(rt.alloc(), 0, &[0, 1, 3]));
+    assert!(rt; is_received(rt.alloc(), 2, &[3, 4]));
     assert!(rt; is_sealed(rt.alloc(), 2));
+}
+
+/// What leaf i is sent.
+fn sent<'a>(alloc: Global, commit: &'a Commit, i: u32) -> Option<Option<&'a Secret>> {
+    commit.secrets.secret_for(alloc, &commit.tree, 1, i).ok()
 }
 
 /// Whether leaf i is sent this secret, or none.
 fn is_sent(alloc: Global, commit: &Commit, i: u32, secret: Option<&Secret>) -> bool {
-    match commit.secrets.secret_for(alloc, &commit.tree, 1, i) {
-        Ok(sent) => sent == secret,
-        Err(_) => false,
+    match sent(alloc, commit, i) {
+        Some(sent) => sent == secret,
+        None => false,
     }
 }
 
@@ -173,11 +187,20 @@ fn takes(commit: &Commit, joiner: &mut PrivatePath, secret: &Secret, nodes: &[u6
     ) && has_nodes(joiner, nodes)
 }
 
+/// Whether leaf 3 takes a path secret of a new commit, and has keys of these nodes then.
+fn takes_new(alloc: Global, joiner: &mut PrivatePath, secret: &Secret, nodes: &[u64]) -> bool {
+    match make_commit(alloc) {
+        Some(commit) => takes(&commit, joiner, secret, nodes),
+        None => false,
+    }
+}
+
 /// Whether leaf 3 joins by a path secret, and has keys of these nodes then.
-fn joins(alloc: Global, secret: &Secret, nodes: &[u64]) -> Option<bool> {
-    let commit = make_commit(alloc)?;
-    let mut joiner = with_key(alloc, 3, 3)?;
-    Some(takes(&commit, &mut joiner, secret, nodes))
+fn joins(alloc: Global, secret: &Secret, nodes: &[u64]) -> bool {
+    match with_key(alloc, 3, 3) {
+        Some(mut joiner) => takes_new(alloc, &mut joiner, secret, nodes),
+        None => false,
+    }
 }
 
 #[test]
@@ -190,34 +213,22 @@ fn sent_to_joiners(rt: HostRuntime) {
     assert!(rt; sends(alloc, 2, Some(&second)));
     assert!(rt; sends(alloc, 3, Some(&second)));
     assert!(rt; sends(alloc, 4, None));
-    assert!(rt; holds(joins(alloc, &second, &[3, 6])));
+    assert!(rt; joins(alloc, &second, &[3, 6]));
 }
 
 // By Python's hmac and hashlib: DeriveSecret of 32 bytes 05 under each label.
-const INIT: Secret = [
-    0x4a, 0xd6, 0x20, 0x46, 0x1e, 0xf9, 0xa2, 0xbd, 0xce, 0x5b, 0xab, 0xde, 0xab, 0xb2, 0x16, 0x41,
-    0xdd, 0xdb, 0x28, 0x22, 0x03, 0xb5, 0x0d, 0x52, 0x06, 0xa2, 0x10, 0x66, 0xa7, 0x5f, 0x4a, 0x15,
-];
+const INIT: &str = "4ad620461ef9a2bdce5babdeabb21641dddb282203b50d5206a21066a75f4a15";
 
-const LEAF: Secret = [
-    0x31, 0x01, 0xb5, 0x3b, 0xab, 0x46, 0x1f, 0x13, 0x79, 0x89, 0x2b, 0x34, 0x35, 0x7c, 0xc3, 0x1c,
-    0xcf, 0xd1, 0x53, 0x5d, 0x50, 0xf3, 0xb1, 0x0b, 0x33, 0x70, 0x13, 0x7c, 0xab, 0xb0, 0xc0, 0x01,
-];
+const LEAF: &str = "3101b53bab461f1379892b34357cc31ccfd1535d50f3b10b3370137cabb0c001";
 
-const SIGN: Secret = [
-    0xcf, 0xf6, 0x47, 0xea, 0x8e, 0x4a, 0xef, 0x86, 0x3d, 0x87, 0x1c, 0x4e, 0xc1, 0xda, 0x05, 0x62,
-    0xb9, 0x20, 0x65, 0xdc, 0x21, 0x17, 0x1f, 0xa0, 0xd9, 0x71, 0x4b, 0xe0, 0xbc, 0x2f, 0x47, 0x69,
-];
+const SIGN: &str = "cff647ea8e4aef863d871c4ec1da0562b92065dc21171fa0d9714be0bc2f4769";
 
-const PATH: Secret = [
-    0x02, 0x44, 0xfe, 0x5d, 0x21, 0xa1, 0x06, 0x2c, 0x70, 0xba, 0x7c, 0xe0, 0x41, 0x63, 0x4f, 0xe2,
-    0x80, 0x20, 0xf0, 0x41, 0x91, 0xa2, 0x57, 0x43, 0x65, 0x1a, 0x86, 0xba, 0x2b, 0x81, 0x87, 0xcd,
-];
+const PATH: &str = "0244fe5d21a1062c70ba7ce041634fe28020f04191a25743651a86ba2b8187cd";
 
 #[test]
 fn seeds_of_keys(rt: HostRuntime) {
-    assert!(rt; init_seed(&SEED) == INIT);
-    assert!(rt; leaf_seed(&SEED) == LEAF);
-    assert!(rt; sign_seed(&SEED) == SIGN);
-    assert!(rt; path_seed(&SEED) == PATH);
+    assert!(rt; has_digits(rt.alloc(), &init_seed(&SEED), INIT));
+    assert!(rt; has_digits(rt.alloc(), &leaf_seed(&SEED), LEAF));
+    assert!(rt; has_digits(rt.alloc(), &sign_seed(&SEED), SIGN));
+    assert!(rt; has_digits(rt.alloc(), &path_seed(&SEED), PATH));
 }

@@ -10,8 +10,8 @@ use crate::indexes::rows::Step::{
 use crate::indexes::rows::{
     Cell, Row, count_met, has_distinct_keys, holds, index, leaf, leave, put,
 };
+use mls_tree_cells::Cells;
 use mls_tree_index::{Index, KeyKind};
-use mls_tree_slot::Slot;
 use std::alloc::{AllocError, Global};
 use std::test::Fail;
 
@@ -87,15 +87,15 @@ fn key_of(k: u8) -> u8 {
 }
 
 /// A hundred leaves; the signature key of each is half its encryption key, rounded down.
-fn hundred(alloc: Global) -> Result<Vec<Slot>, AllocError> {
-    let mut cells = Vec::new(alloc);
+fn hundred(alloc: Global) -> Result<Cells, AllocError> {
+    let mut slots = Vec::new(alloc);
     for k in 0..100u8 {
-        cells.push(leaf(alloc, key_of(k), key_of(k) / 2)?)?;
+        slots.push(leaf(alloc, key_of(k), key_of(k) / 2)?)?;
     }
-    Ok(cells)
+    Cells::from_slots(slots)
 }
 
-fn holds_hundred(index: &Index, cells: &[Slot]) -> bool {
+fn holds_hundred(index: &Index, cells: &Cells) -> bool {
     for k in 0..100u8 {
         if !holds(index, cells, &[key_of(k)]) {
             return false;
@@ -115,11 +115,11 @@ fn orders_hundred(alloc: Global) -> Result<bool, AllocError> {
 fn leave_each_second(
     alloc: Global,
     index: &mut Index,
-    cells: &mut [Slot],
+    cells: &mut Cells,
 ) -> Result<(), AllocError> {
     for x in 0..50u32 {
-        leave(index, cells, 2 * x + 1);
-        put(alloc, cells, 2 * x as usize + 1, Blank)?;
+        leave(index, cells, 2 * x + 1)?;
+        put(alloc, cells, 2 * x + 1, Blank)?;
     }
     Ok(())
 }

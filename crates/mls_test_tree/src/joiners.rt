@@ -87,10 +87,17 @@ fn commit_secret(alloc: Global) -> Option<Secret> {
     Some(make_path(alloc, &mut own, &SECRET, &[1])?.commit_secret)
 }
 
+/// Whether a joiner takes this commit secret of a tree.
+fn takes_in(joiner: &mut PrivatePath, tree: &PublicTree, commit_secret: &Secret) -> bool {
+    answers_with(take_secret(joiner, tree, 0, &SECRET), commit_secret)
+}
+
 /// Whether a joiner takes this commit secret of two members, whose root lists nobody.
 fn takes(alloc: Global, joiner: &mut PrivatePath, commit_secret: &Secret) -> Option<bool> {
-    let tree = two(alloc, &[])?;
-    Some(answers_with(take_secret(joiner, &tree, 0, &SECRET), commit_secret))
+    match two(alloc, &[]) {
+        Some(tree) => Some(takes_in(joiner, &tree, commit_secret)),
+        None => None,
+    }
 }
 
 /// The second of two members, who took the commit secret of the first.

@@ -120,11 +120,18 @@ fn copy_of(alloc: Global, own: &PrivatePath) -> Option<Box<PrivatePath>> {
     boxed(alloc, own.clone().ok()?)
 }
 
+/// Whether a copy is of leaf 1, and has its key and those of the path of two nodes.
+fn is_copied(copy: &PrivatePath, made: &PathSecrets) -> bool {
+    copy.leaf() == 1 && has_made(copy, made)
+}
+
 /// Whether a copy of the maker is of the same leaf, and has its leaf's key and those of the path of two nodes.
 fn copy_has_made(alloc: Global) -> Option<bool> {
     let maker = two_maker(alloc)?;
-    let copy = copy_of(alloc, &maker.own)?;
-    Some(copy.leaf() == 1 && has_made(&copy, &maker.made))
+    match copy_of(alloc, &maker.own) {
+        Some(copy) => Some(is_copied(&copy, &maker.made)),
+        None => None,
+    }
 }
 
 #[test]

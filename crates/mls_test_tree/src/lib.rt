@@ -31,6 +31,8 @@ mod seals;
 #[cfg(test)]
 mod shapes;
 #[cfg(test)]
+mod shared_trees;
+#[cfg(test)]
 mod slots;
 #[cfg(test)]
 mod small_trees;

@@ -1,7 +1,8 @@
 //! Leaf 1's path in a tree of four members, as the others open it.
 
 use crate::small_trees::{
-    answers_with, has_nodes, holds, next, node_pair, number_of, of_four, path_secrets, public,
+    OfFour, answers_with, has_nodes, holds, next, node_pair, number_of, of_four, path_secrets,
+    public,
 };
 use mls_kdf::Secret;
 use mls_leaf::{Bytes, Items};
@@ -57,14 +58,20 @@ fn push_node(
     nodes.push(node_of(pair.pk, ciphertexts)).ok()
 }
 
+/// The lower node of leaf 1's path.
+fn lower_node(alloc: Global) -> Option<Vec<UpdatePathNode>> {
+    let mut nodes = Vec::new(alloc);
+    push_node(alloc, &mut nodes, &START, sealed_to(alloc, &[0], &START)?)?;
+    Some(nodes)
+}
+
 /// Leaf 1's path, whose highest node is that of a path secret, with these ciphertexts.
 fn path_of(
     alloc: Global,
     highest: &Secret,
     ciphertexts: Items<HpkeCiphertext>,
 ) -> Option<Vec<UpdatePathNode>> {
-    let mut nodes = Vec::new(alloc);
-    push_node(alloc, &mut nodes, &START, sealed_to(alloc, &[0], &START)?)?;
+    let mut nodes = lower_node(alloc)?;
     push_node(alloc, &mut nodes, highest, ciphertexts)?;
     Some(nodes)
 }
@@ -84,6 +91,17 @@ fn commit_secret(alloc: Global) -> Option<Secret> {
     Some(path_secrets(alloc, &START, 2)?.commit_secret)
 }
 
+/// Whether a member opens a path to this commit secret, and has keys of these nodes then.
+fn opens_to(
+    own: &mut OfFour,
+    added: &[u32],
+    path: &[UpdatePathNode],
+    commit_secret: &Secret,
+    nodes: &[u64],
+) -> bool {
+    answers_with(own.open(added, path), commit_secret) && has_nodes(&own.path, nodes)
+}
+
 /// Whether leaf i opens a path in a commit that added these leaves, and has keys of these nodes then.
 fn is_opened(
     alloc: Global,
@@ -93,9 +111,10 @@ fn is_opened(
     nodes: &[u64],
 ) -> Option<bool> {
     let commit_secret = commit_secret(alloc)?;
-    let mut own = of_four(alloc, i)?;
-    let opened = own.open(added, path);
-    Some(answers_with(opened, &commit_secret) && has_nodes(&own.path, nodes))
+    match of_four(alloc, i) {
+        Some(mut own) => Some(opens_to(&mut own, added, path, &commit_secret, nodes)),
+        None => None,
+    }
 }
 
 /// Whether leaf i so opens leaf 1's path.
@@ -173,10 +192,19 @@ fn alone(alloc: Global, sealed: HpkeCiphertext) -> Option<Items<HpkeCiphertext>>
     Some(Items::from_vec(ciphertexts))
 }
 
+/// The root's path secret sealed to leaf 2, with one bit changed.
+fn changed_sealed(alloc: Global) -> Option<HpkeCiphertext> {
+    changed(alloc, sealed(alloc, 2, &second())?)
+}
+
+fn changed_alone(alloc: Global) -> Option<Items<HpkeCiphertext>> {
+    alone(alloc, changed_sealed(alloc)?)
+}
+
 /// Leaf 1's path, whose root has its path secret sealed to leaf 2, with one bit changed.
 fn changed_path(alloc: Global) -> Option<Vec<UpdatePathNode>> {
-    let sealed = changed(alloc, sealed(alloc, 2, &second())?)?;
-    path_of(alloc, &second(), alone(alloc, sealed)?)
+    let ciphertexts = changed_alone(alloc)?;
+    path_of(alloc, &second(), ciphertexts)
 }
 
 /// Whether leaf 2 refuses that path with this number.

@@ -7,14 +7,17 @@ mod sent_nodes;
 pub(crate) mod trees;
 
 use crate::rows::edits::{
-    add, add_keys, begin, follow, merge, merge_committed, merge_given, merge_long, remove, update,
+    add, add_keys, begin, follow, merge, merge_all, merge_committed, merge_given, merge_long,
+    remove, share, update,
 };
 use crate::rows::queries::{
     ciphertext_counts, counts, distinct, filtered_path, hashes_made, is_blank, is_reached,
     last_path, parent_hash_length, resolution, sent_length,
 };
 use crate::rows::sent_nodes::{check, tree_of_digits};
-use crate::rows::trees::{all_taken, copy_of, odd_tree, single, taken_leaves, tree_with_unmerged};
+use crate::rows::trees::{
+    all_taken, copy_of, large_tree, odd_tree, single, taken_leaves, tree_with_unmerged,
+};
 use mls_tree::{PublicTree, TreeError};
 use std::alloc::Global;
 
@@ -31,6 +34,9 @@ pub(crate) enum Step {
     Unmerged,
     /// Begins anew with five members of eight leaves, and a parent over leaves 6 and 7.
     Odd,
+    /// Begins anew with members at the first 2,000 leaves of 4,096, and at leaves 2,048 and 2,049, each with keys of its
+    /// own, of two bytes.
+    Large,
     /// Begins anew with the tree of these nodes: hex digits of each.
     Nodes(&'static [&'static str]),
     /// Adds a member with this key, and answers its leaf.
@@ -42,7 +48,9 @@ pub(crate) enum Step {
     Remove(u32),
     /// Merges this member's path of one parent: the key of its leaf, and that of the parent.
     Merge(u32, u8, u8),
-    /// Merges such a path that is prepared, and then followed: whether the tree hash that it had is the tree's and that
+    /// Merges this member's path: the key of its leaf, and those of its parents, the lowest first.
+    MergeAll(u32, u8, &'static [u8]),
+    /// Merges a path of one parent that is prepared, and then followed: whether the tree hash that it had is the tree's and that
     /// of a copy which it was merged into, and how many hashes the tree counts for it.
     Follow(u32, u8, u8),
     /// A merge with the key 8, and one of 32 bytes; answers how long the leaf's parent hash is.
@@ -52,6 +60,8 @@ pub(crate) enum Step {
     MergeCommitted(u32, &'static [u8]),
     /// Merges a path of member 0, whose leaf has the key 2 and this parent hash, with these keys.
     MergeGiven(&'static [u8], &'static [u8]),
+    /// Lets later copies share what the tree has.
+    Share,
     /// How many leaves and how many members there are.
     Counts,
     /// Whether no encryption key stands twice, and whether no signature key does.
@@ -98,16 +108,19 @@ fn answer(alloc: Global, tree: &mut Box<PublicTree>, step: Step) -> Result<Vec<u
         Step::AllTaken(count) => begin(alloc, tree, all_taken(alloc, count)),
         Step::Unmerged => begin(alloc, tree, tree_with_unmerged(alloc)),
         Step::Odd => begin(alloc, tree, odd_tree(alloc)),
+        Step::Large => begin(alloc, tree, large_tree(alloc)),
         Step::Nodes(digits) => begin(alloc, tree, tree_of_digits(alloc, digits)),
         Step::Add(key) => add(alloc, tree, key),
         Step::AddKeys(from, to) => add_keys(alloc, tree, from, to),
         Step::Update(i, key) => update(alloc, tree, i, key),
         Step::Remove(i) => remove(alloc, tree, i),
         Step::Merge(i, own, key) => merge(alloc, tree, i, own, key),
+        Step::MergeAll(i, own, keys) => merge_all(alloc, tree, i, own, keys),
         Step::Follow(i, own, key) => follow(alloc, tree, i, own, key),
         Step::MergeLong(i) => merge_long(alloc, tree, i),
         Step::MergeCommitted(i, keys) => merge_committed(alloc, tree, i, keys),
         Step::MergeGiven(hash, keys) => merge_given(alloc, tree, hash, keys),
+        Step::Share => share(alloc, tree),
         Step::Counts => counts(alloc, tree),
         Step::Distinct => distinct(alloc, tree),
         Step::Resolution(x) => resolution(tree, x),

@@ -1,7 +1,8 @@
 //! Paths that are sealed in small trees.
 
 use crate::small_trees::{
-    answers_with, four, holds, leaf, next, number_of, of_four, path_secrets, sealed_path,
+    OfFour, answers_with, four, has_digits, holds, leaf, next, number_of, of_four, path_secrets,
+    sealed_path,
 };
 use mls_kdf::Secret;
 use mls_leaf::LeafNode;
@@ -12,14 +13,11 @@ use mls_types::{HpkeCiphertext, UpdatePathNode};
 use std::alloc::Global;
 
 // By Python's hmac and hashlib: ExpandWithLabel of 32 bytes 09, "seed seal" and the number 0x01020304.
-const SEED: Secret = [
-    0x78, 0xb5, 0xf7, 0x8a, 0x15, 0x43, 0x37, 0x44, 0xc5, 0xb8, 0x20, 0xad, 0x2a, 0xf4, 0x4c, 0xc3,
-    0xea, 0x8c, 0x23, 0xef, 0x69, 0x10, 0xa9, 0x0e, 0x1f, 0xcd, 0x5b, 0x37, 0xb3, 0x64, 0xdd, 0x94,
-];
+const SEED: &str = "78b5f78a15433744c5b820ad2af44cc3ea8c23ef6910a90e1fcd5b37b364dd94";
 
 #[test]
 fn seeds_of_seals(rt: HostRuntime) {
-    assert!(rt; seal_seed(&[9; 32], 0x0102_0304) == SEED);
+    assert!(rt; has_digits(rt.alloc(), &seal_seed(&[9; 32], 0x0102_0304), SEED));
 }
 
 /// The first path secret.
@@ -75,10 +73,23 @@ fn ciphertext_at(nodes: &[UpdatePathNode], i: usize, place: usize) -> Option<&Hp
     nodes.get(i)?.ciphertexts.as_slice().get(place)
 }
 
+/// What that ciphertext opens to.
+fn opened_at(
+    alloc: Global,
+    nodes: &[UpdatePathNode],
+    i: usize,
+    place: usize,
+    byte: u8,
+) -> Option<Vec<u8>> {
+    decrypt(alloc, byte, ciphertext_at(nodes, i, place)?)
+}
+
 /// What a ciphertext of the path opens to, by the key of 32 such bytes, in a commit that added these leaves.
 fn opened(alloc: Global, added: &[u32], i: usize, place: usize, byte: u8) -> Option<Vec<u8>> {
-    let nodes = sealed_in_four(alloc, added)?;
-    decrypt(alloc, byte, ciphertext_at(&nodes, i, place)?)
+    match sealed_in_four(alloc, added) {
+        Some(nodes) => opened_at(alloc, &nodes, i, place, byte),
+        None => None,
+    }
 }
 
 /// Whether that is this secret.
@@ -112,11 +123,23 @@ fn a_path_of_four(rt: HostRuntime) {
     assert!(rt; opens(alloc, &[], 1, 1, 3, &second));
 }
 
+/// The path that leaf 1 sends in the tree of a member.
+fn sent_to(alloc: Global, own: &OfFour) -> Option<Vec<UpdatePathNode>> {
+    sealed(alloc, &own.tree, &[]).ok()
+}
+
+/// Whether a member takes this commit secret of a path.
+fn opens_to(own: &mut OfFour, path: &[UpdatePathNode], commit_secret: &Secret) -> bool {
+    answers_with(own.open(&[], path), commit_secret)
+}
+
 /// Whether leaf i takes this commit secret of the path in a tree of four.
 fn takes(alloc: Global, i: u8, commit_secret: &Secret) -> Option<bool> {
     let mut own = of_four(alloc, i)?;
-    let path = sealed(alloc, &own.tree, &[]).ok()?;
-    Some(answers_with(own.open(&[], &path), commit_secret))
+    match sent_to(alloc, &own) {
+        Some(path) => Some(opens_to(&mut own, &path, commit_secret)),
+        None => None,
+    }
 }
 
 /// Whether leaf i takes the commit secret of the path in a tree of four.

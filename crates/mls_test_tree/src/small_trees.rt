@@ -172,6 +172,14 @@ pub(crate) fn of_four(alloc: Global, i: u8) -> Option<Box<OfFour>> {
     boxed(alloc, OfFour { tree, path })
 }
 
+/// Whether bytes have these digits.
+pub(crate) fn has_digits(alloc: Global, bytes: &[u8], digits: &str) -> bool {
+    match hex::decode(alloc, digits.as_bytes()) {
+        Ok(wanted) => wanted.as_slice() == bytes,
+        Err(_) => false,
+    }
+}
+
 /// Whether there is an answer, and it is true.
 pub(crate) fn holds(answer: Option<bool>) -> bool {
     match answer {

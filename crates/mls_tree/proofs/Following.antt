@@ -18,10 +18,12 @@ use Rattle.mls_tree_model.proofs.ArrayLaws.{perfect-term_of}
 use Rattle.mls_tree_model.proofs.PlaceLaws.{perfect-merge}
 use Rattle.mls_tree_hash.specs.Counter.{counted}
 use Rattle.mls_tree_array.specs.KeptHashes.{hashes_of, Keeps, drop_hashes, cold_places}
+use Rattle.mls_tree_cells.specs.Cells.{CellList}
 use Rattle.mls_tree_array.proofs.KeptLaws.{hashes_of_branch, length-hashes_of, left_part, right_part, dropped_leaf, dropped_left, dropped_right, cold-append, cold-cons, none_cold}
 use Rattle.mls_tree_array.specs.Merging.{path_parents}
 use Rattle.mls_tree_array.specs.StandingLaws.{StandsFor}
-use Rattle.mls_tree_array.specs.WayHashes.{way_hashes, HashesMerged, PutsHashes}
+use Rattle.mls_tree_array.specs.WayHashes.{way_hashes, HashesMerged, KeepsOnWay}
+use Rattle.mls_tree_array.proofs.ChangeLaws.{differ_merge}
 use Rattle.mls_tree_array.proofs.WayHashLaws.{length-way_hashes}
 use Rattle.mls_tree.specs.Tree.{Tree, term}
 use Rattle.mls_tree.specs.ColdNodes.{Warms, Chills}
@@ -29,6 +31,8 @@ use Rattle.mls_tree.specs.Paths.{merge_checks, merge_answer}
 use Rattle.mls_tree.specs.PreparedPath.{Prepared, IsPrepared, IsFor, keys_of, merged_by}
 use Rattle.mls_tree.proofs.Steps.{merge_steps}
 use Rattle.mls_tree.proofs.Pathing.{merge_is, merge_done}
+use Rattle.mls_tree.specs.ArrayEdits.{EditsLeaf}
+use Rattle.mls_tree.proofs.CellEdits.{kept_after}
 use Rattle.mls_tree.proofs.Chilling.{tree_of, warmed, edited_in}
 
 -- ---- the keys of a path's parents
@@ -125,10 +129,10 @@ module _ (h i : ℕ) (xs : List (Option Node)) (x : LeafNode) (keys : List (List
       ap length by_merge
       ∙ length-way_hashes h 0 (merge 0 (term_of h xs) i (reverse keys) [] x) i (perfect-merge h 0 (term_of h xs) i (reverse keys) [] x (perfect-term_of h xs))
 
-  pub hashes_after : (ys : List (Option Node)) (hs gs : List (Option (List ℕ))) → hs ≡ hashes_of 0 (term_of h xs) → PutsHashes h 0 i ws hs gs → StandsFor h ys (merge_path (term_of h xs) i x keys) → gs ≡ hashes_of 0 (term_of h ys)
-  hashes_after ys hs gs old puts stands =
-      puts (term_of h xs) (reverse keys) [] x (perfect-term_of h xs) old by_merge
-      ∙ ap (hashes_of 0) (merge_is (term_of h xs) i x keys ∙ sym stands.term)
+  pub hashes_after : (old mid new : CellList) → old.hashes ≡ hashes_of 0 (term_of h xs) → EditsLeaf h i (term_of h xs) (merge_path (term_of h xs) i x keys) old mid → KeepsOnWay h 0 i ws mid new → new.hashes ≡ hashes_of 0 (term_of h new.nodes)
+  hashes_after old mid new all edited keeps =
+      kept_after h i (term_of h xs) (merge 0 (term_of h xs) i (reverse keys) [] x) old mid (perfect-term_of h xs) edited.hashes ws new (differ_merge 0 (term_of h xs) i (reverse keys) [] x) all by_merge keeps
+      ∙ ap (hashes_of 0) (merge_is (term_of h xs) i x keys ∙ sym edited.nodes.term ∙ ap (λ c. term_of h c.nodes) (sym keeps))
 
 -- ---- what it costs: an edit, and the hashes of the nodes that it makes cold
 

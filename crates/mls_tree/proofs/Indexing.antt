@@ -24,7 +24,7 @@ use Rattle.mls_tree_index.specs.BlankedCells.{cells_without}
 use Rattle.mls_tree_index.proofs.StepLaws.{same_index}
 use Rattle.mls_tree_index.proofs.Laws.{indexes_padded}
 use Rattle.mls_tree.specs.declared.key_indexes.KeyIndexes.{KeyIndexes}
-use Rattle.mls_tree.specs.IndexedKeys.{AreIndexes, AreBeside, AreSame, Fills, IsClient}
+use Rattle.mls_tree.specs.IndexedKeys.{AreIndexes, AreBeside, AreSame, Fills, HaveRoom, IsClient}
 use Rattle.mls_tree.proofs.ClientLaws.{indexes-client}
 use Rattle.mls_tree.specs.Way.{way_numbers}
 use Rattle.mls_tree.proofs.WayLaws.{way_distinct}
@@ -43,6 +43,9 @@ same_indexes c s t same is = record {
   keys = same_index c s.keys t.keys same.keys is.keys;
   clients = same_index c s.clients t.clients same.clients is.clients;
 }
+
+pub less_room : (m n : ℕ) (t : KeyIndexes) → m ≤ n → HaveRoom n t → HaveRoom m t
+less_room m n t less room = let a = room.keys in let b = room.clients in record { keys = omega arith; clients = omega arith }
 
 pub both_of : (b c : List (Option Node)) (s : KeyIndexes) → ((t : Listing) → Indexes b t → Indexes c t) → AreIndexes b s → AreIndexes c s
 both_of b c s step is = record {

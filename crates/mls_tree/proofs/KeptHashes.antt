@@ -12,15 +12,15 @@ use Rattle.mls_tree_model.proofs.ShapeLaws.{perfect-blanks, perfect-grow}
 use Rattle.mls_tree_model.proofs.ArrayLaws.{size-term_of, size-perfect, perfect-term_of}
 use Rattle.mls_tree_array.specs.StandingLaws.{StandsFor}
 use Rattle.mls_tree_array.proofs.StandingLaws.{height-term_of}
-use Rattle.mls_tree_array.specs.KeptHashes.{hashes_of, Keeps, drop_hashes, KeptHashes}
+use Rattle.mls_tree_array.specs.KeptHashes.{hashes_of, Keeps, drop_hashes}
 use Rattle.mls_tree_array.proofs.KeptLaws.{keeps_all, keeps_none, keeps_long, keeps-put, keeps-enter, keeps-merge, keeps-grow, keeps-trim}
 use Rattle.mls_tree.proofs.Pathing.{merge_is}
 
 pub cold_tree : (h n : ℕ) (xs : List (Option Node)) → n ≡ nodes_in h → Keeps 0 (term_of h xs) (replicate n None)
 cold_tree h n xs all = subst (λ k. Keeps 0 (term_of h xs) (replicate k None)) (size-term_of h xs ∙ sym all) (keeps_none 0 (term_of h xs))
 
-pub cold_by : (h n d : ℕ) (xs : List (Option Node)) (hashes : KeptHashes) → hashes ≡ record { kept = replicate n None; done = d } → n ≡ nodes_in h → Keeps 0 (term_of h xs) hashes.kept
-cold_by h n d xs hashes is all = subst (Keeps 0 (term_of h xs)) (sym (ap (λ m. m.kept) is)) (cold_tree h n xs all)
+pub cold_by : (h n : ℕ) (xs : List (Option Node)) (hs : List (Option (List ℕ))) → hs ≡ replicate n None → n ≡ nodes_in h → Keeps 0 (term_of h xs) hs
+cold_by h n xs hs is all = subst (Keeps 0 (term_of h xs)) (sym is) (cold_tree h n xs all)
 
 pub kept_long : (h : ℕ) (xs : List (Option Node)) (hs : List (Option (List ℕ))) → Keeps 0 (term_of h xs) hs → length hs ≡ nodes_in h
 kept_long h xs hs k = keeps_long 0 (term_of h xs) hs k ∙ size-term_of h xs
@@ -68,19 +68,3 @@ kept-trimmed h j n xs ys hs gs k stands all is =
     let many : n ≡ size (trim (term_of h xs)) = all ∙ stands.stands.size ∙ sym (size-term_of j ys) ∙ ap size stands.term in
     subst (λ t. Keeps 0 t gs) (sym stands.term)
     (subst (Keeps 0 (trim (term_of h xs))) (sym (is ∙ ap (λ m. take m hs) many)) (keeps-trim 0 (term_of h xs) hs k))
-
-pub grown_is : (h n : ℕ) (old mid : KeptHashes) → mid ≡ record old { kept = old.kept ++ replicate (n + 1) None } → n ≡ nodes_in h → mid.kept ≡ old.kept ++ replicate (suc (nodes_in h)) None
-grown_is h n old mid is all =
-    let more : n + 1 ≡ suc (nodes_in h) = omega arith in
-    ap (λ m. m.kept) is ∙ ap (λ k. old.kept ++ replicate k None) more
-
-pub grown_long : (h : ℕ) (xs : List (Option Node)) (hs gs : List (Option (List ℕ))) → Keeps 0 (term_of h xs) hs → gs ≡ hs ++ replicate (suc (nodes_in h)) None → length gs ≡ nodes_in (h + 1)
-grown_long h xs hs gs k is =
-    ap length is ∙ keeps_long 0 (grow (term_of h xs)) (hs ++ replicate (suc (nodes_in h)) None) (kept-grown h xs hs k) ∙ size-perfect (h + 1) (grow (term_of h xs)) (grown_perfect h xs)
-
--- what was added is taken back
-pub cut_back : (count n : ℕ) (old mid new : KeptHashes) → mid ≡ record old { kept = old.kept ++ replicate n None } → new ≡ record mid { kept = take count mid.kept } → length old.kept ≡ count → new ≡ old
-cut_back count n old mid new grew cut long =
-    let f : KeptHashes → KeptHashes = λ m. record m { kept = take count m.kept } in
-    let g : List (Option (List ℕ)) → KeptHashes = λ hs. record old { kept = hs } in
-    cut ∙ ap f grew ∙ ap g (take_at old.kept (replicate n None) count long)

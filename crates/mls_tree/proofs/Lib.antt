@@ -23,11 +23,13 @@ pub mod Fitting
 pub mod Checked
 pub mod EditsKeepGood
 pub mod KeptHashes
+pub mod CellEdits
 pub mod Costs
 pub mod Chilling
 pub mod Bounding
 pub mod Filling
 pub mod Indexing
+pub mod Removing
 pub mod Ways
 pub mod Following
 pub mod Drafting

@@ -1,5 +1,5 @@
 -- The indexes that a tree keeps of its keys.
-use Rattle.std.specs.Prelude.{◌≡◌, ℕ, ◌≤◌, Bool, cond, List, length, Option, Some, None}
+use Rattle.std.specs.Prelude.{◌≡◌, ℕ, ◌+◌, ◌≤◌, Bool, false, cond, List, length, Option, Some, None}
 use Rattle.mls_leaf.specs.declared.leaf.LeafNode.{LeafNode}
 use Rattle.mls_leaf.specs.declared.node.Node.{Node}
 use Rattle.mls_tree_index.specs.declared.kind.KeyKind.{KeyKind}
@@ -19,10 +19,23 @@ pub record AreIndexes (cells : List (Option Node)) (t : KeyIndexes) : Type 0 whe
   pub keys : Indexes cells t.keys
   pub clients : Indexes cells t.clients
 
--- both have memory for so many more cells
+-- both have so much room
 pub record HaveRoom (n : ℕ) (t : KeyIndexes) : Type 0 where
   pub keys : n ≤ t.keys.room
   pub clients : n ≤ t.clients.room
+
+-- all but n of the room is left
+abbrev pub LeavesRoom : ℕ → KeyIndexes → KeyIndexes → Type 0
+LeavesRoom n old new = (m : ℕ) → HaveRoom (m + n) old → HaveRoom m new
+
+-- neither shares its blocks with a copy
+pub record AreOwn (t : KeyIndexes) : Type 0 where
+  pub keys : t.keys.shared ≡ false
+  pub clients : t.clients.shared ≡ false
+
+-- where they shared nothing, they still share nothing
+abbrev pub StayOwn : KeyIndexes → KeyIndexes → Type 0
+StayOwn old new = AreOwn old → AreOwn new
 
 -- they are the same except for their memory
 pub record AreSame (s t : KeyIndexes) : Type 0 where

@@ -8,7 +8,7 @@ use Rattle.mls_tree.specs.declared.error.TreeError.{TreeError}
 use Rattle.mls_tree.specs.declared.error.TreeError.TheVariants.{NoSuchLeaf}
 use Rattle.mls_tree.specs.Faults.{number_of}
 use Rattle.mls_tree.specs.Paths.{merge_answer, ChangesWhole}
-use Rattle.mls_tree.specs.Tree.{Tree, term, add_answer, update_answer, remove_answer, Changes}
+use Rattle.mls_tree.specs.Tree.{Tree, term, add_answer, update_answer, remove_answer}
 
 -- Where the definition refuses, the call does with the same number, also when an allocation fails.
 abbrev pub RefusesOutright : {A B E : Type 0} → (E → ℕ) → Result A ℕ → Result B E → Type 0
@@ -45,7 +45,7 @@ AnswersUpdate i leaf old new result = ChangesWhole number_of (update_answer (ter
 
 -- An edit does what its definition says: it removes member i.
 abbrev pub AnswersRemove : ℕ → Tree → Tree → Result (Unit {0}) TreeError → Type 0
-AnswersRemove i old new result = Changes number_of (remove_answer (term old) i) (term old) (term new) result
+AnswersRemove i old new result = ChangesWhole number_of (remove_answer (term old) i) (term old) (term new) result
 
 -- An edit does what its definition says: it merges a path of leaf i.
 abbrev pub AnswersMerge : ℕ → LeafNode → List (List ℕ) → Tree → Tree → Result (Unit {0}) TreeError → Type 0

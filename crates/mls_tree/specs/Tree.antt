@@ -1,5 +1,5 @@
 -- A public tree as a value, and what its calls answer.
-use Rattle.std.specs.Prelude.{◌≡◌, ℕ, ◌^◌, List, Option, Result, Ok, Err}
+use Rattle.std.specs.Prelude.{◌≡◌, ℕ, ◌^◌, List, Option, Result, Ok}
 use Rattle.mls_wire.specs.Checks.{require, require_some, ◌>>◌}
 use Rattle.mls_wire.specs.Reading.{◌>>=◌}
 use Rattle.mls_leaf.specs.declared.node.Node.{Node}
@@ -46,9 +46,3 @@ update_answer t i x = member_at t i >>= λ v. Ok (update t i x)
 -- the tree after the removal of a member, or `NoSuchLeaf` (22) (RFC 9420, 12.1.3)
 unfoldable pub remove_answer : Term → ℕ → Result Term ℕ
 remove_answer t i = member_at t i >>= λ v. Ok (remove t i)
-
--- A call that may change a tree does what the definition says, and takes no memory: after a refusal the tree is as
--- before.
-abbrev pub Changes : {E : Type 0} → (E → ℕ) → Result Term ℕ → Term → Term → Result (Unit {0}) E → Type 0
-Changes number defined old new (Ok _) = defined ≡ Ok new
-Changes number defined old new (Err e) = (new ≡ old) × (defined ≡ Err (number e))

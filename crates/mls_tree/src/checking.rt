@@ -29,7 +29,8 @@ use crate::tree::PublicTree;
 use mls_checks::{leaf_capable, leaf_signed};
 use mls_leaf::{LeafNode, Node};
 use mls_suite::Suite;
-use mls_tree_array::{self as array, Hash, HashedSubtree, Subtree};
+use mls_tree_array::{self as array, HashedSubtree, Subtree};
+use mls_tree_cells::Cells;
 use mls_tree_slot::Slot;
 use std::alloc::{AllocError, Global};
 
@@ -44,14 +45,14 @@ fn is_capable_or_blank(leaf: Option<&LeafNode>, suite: u16) -> bool
 }
 
 /// Whether each member has the capabilities that a group of this suite needs.
-fn are_all_capable(nodes: &[Slot], height: u32, suite: u16) -> bool
-    requires shape { length nodes.now ≡ nodes_in height }
-    requires fits { length nodes.now < 2 ^ 32 }
-    ensures { AnswersCapable suite (term_of height nodes.now) result }
+fn are_all_capable(cells: &Cells, height: u32, suite: u16) -> bool
+    requires shape { length cells.now.nodes ≡ nodes_in height }
+    requires fits { length cells.now.nodes < 2 ^ 32 }
+    ensures { AnswersCapable suite (term_of height cells.now.nodes) result }
 {
-    let leaves = (nodes.len() / 2 + 1) as u32;
+    let leaves = (cells.len() / 2 + 1) as u32;
     for i in 0..leaves {
-        if !is_capable_or_blank(array::leaf(nodes, height, i), suite) {
+        if !is_capable_or_blank(array::leaf(cells, height, i), suite) {
             return false;
         }
     }
@@ -78,19 +79,19 @@ fn is_signed_or_blank<S: Suite>(
 /// Whether each member's signature is its own.
 fn are_all_signed<S: Suite>(
     alloc: Global,
-    nodes: &[Slot],
+    cells: &Cells,
     height: u32,
     group_id: &[u8],
 ) -> Result<bool, AllocError>
-    requires shape { length nodes.now ≡ nodes_in height }
-    requires fits { length nodes.now < 2 ^ 32 }
+    requires shape { length cells.now.nodes ≡ nodes_in height }
+    requires fits { length cells.now.nodes < 2 ^ 32 }
     requires group { length group_id.now < 2 ^ 28 }
-    requires short { HasShortLeaves (term_of height nodes.now) }
-    ensures { IfOk result (AnswersAllSigned S.crypto group_id.now (term_of height nodes.now)) }
+    requires short { HasShortLeaves (term_of height cells.now.nodes) }
+    ensures { IfOk result (AnswersAllSigned S.crypto group_id.now (term_of height cells.now.nodes)) }
 {
-    let leaves = (nodes.len() / 2 + 1) as u32;
+    let leaves = (cells.len() / 2 + 1) as u32;
     for i in 0..leaves {
-        if !is_signed_or_blank::<S>(alloc, array::leaf(nodes, height, i), group_id, i)? {
+        if !is_signed_or_blank::<S>(alloc, array::leaf(cells, height, i), group_id, i)? {
             return Ok(false);
         }
     }
@@ -109,12 +110,12 @@ fn is_fit_or_blank<S: Suite>(node: &Slot) -> bool
 }
 
 /// Whether each encryption key is fit for sealing. Takes no memory.
-fn are_all_fit<S: Suite>(nodes: &[Slot], height: u32) -> bool
-    requires { Stands height nodes.now }
-    ensures { AnswersAllFit S.crypto (term_of height nodes.now) result }
+fn are_all_fit<S: Suite>(cells: &Cells, height: u32) -> bool
+    requires { Stands height cells.now.nodes }
+    ensures { AnswersAllFit S.crypto (term_of height cells.now.nodes) result }
 {
-    for node in nodes {
-        if !is_fit_or_blank::<S>(node) {
+    for x in 0..cells.len() {
+        if !is_fit_or_blank::<S>(cells.slot(x)) {
             return false;
         }
     }
@@ -122,29 +123,24 @@ fn are_all_fit<S: Suite>(nodes: &[Slot], height: u32) -> bool
 }
 
 /// Whether each list of unmerged leaves is right.
-fn has_good_lists(nodes: &[Slot], height: u32) -> bool
-    requires stands { Stands height nodes.now }
+fn has_good_lists(cells: &Cells, height: u32) -> bool
+    requires stands { Stands height cells.now.nodes }
     requires low { height ≤ max_height }
-    ensures right { result ≡ has_good_lists (term_of height nodes.now) }
-    ensures rising { result ≡ true → AllRise 0 (term_of height nodes.now) }
+    ensures right { result ≡ has_good_lists (term_of height cells.now.nodes) }
+    ensures rising { result ≡ true → AllRise 0 (term_of height cells.now.nodes) }
 {
-    array::has_good_lists(&Subtree::of(nodes, height))
+    array::has_good_lists(&Subtree::of(cells, height))
 }
 
 /// Whether each parent is parent-hash valid, where the lists of unmerged leaves are right.
-fn has_good_hashes(
-    alloc: Global,
-    nodes: &[Slot],
-    kept: &[Option<Hash>],
-    height: u32,
-) -> Result<bool, AllocError>
-    requires stands { Stands height nodes.now }
+fn has_good_hashes(alloc: Global, cells: &Cells, height: u32) -> Result<bool, AllocError>
+    requires stands { Stands height cells.now.nodes }
     requires low { height ≤ max_height }
-    requires hashed { kept.now ≡ hashes_of 0 (term_of height nodes.now) }
-    requires lists { has_good_lists (term_of height nodes.now) ≡ true }
-    ensures { IfOk result (λ v. v ≡ has_good_hashes (term_of height nodes.now)) }
+    requires hashed { cells.now.hashes ≡ hashes_of 0 (term_of height cells.now.nodes) }
+    requires lists { has_good_lists (term_of height cells.now.nodes) ≡ true }
+    ensures { IfOk result (λ v. v ≡ has_good_hashes (term_of height cells.now.nodes)) }
 {
-    let tree = HashedSubtree::of(Subtree::of(nodes, height), kept);
+    let tree = HashedSubtree::of(cells, height);
     array::has_good_hashes(alloc, &tree)
 }
 
@@ -152,26 +148,25 @@ fn has_good_hashes(
 #[tactic(auto, unfolding(mls_tree_model::specs::Good::tree_checks))]
 fn check<S: Suite>(
     alloc: Global,
-    nodes: &[Slot],
-    kept: &[Option<Hash>],
+    cells: &Cells,
     indexes: &KeyIndexes,
     height: u32,
     group_id: &[u8],
 ) -> Result<(), TreeError>
-    requires stands { Stands height nodes.now }
+    requires stands { Stands height cells.now.nodes }
     requires low { height ≤ max_height }
     requires group { length group_id.now < 2 ^ 28 }
-    requires short { HasShortLeaves (term_of height nodes.now) }
-    requires hashed { kept.now ≡ hashes_of 0 (term_of height nodes.now) }
-    requires indexed { AreIndexes nodes.now indexes.now }
-    ensures answer { AnswersTreeChecks S.crypto group_id.now (term_of height nodes.now) result }
-    ensures lists { Refuses (require 23 (has_good_lists (term_of height nodes.now))) result }
-    ensures rising { OnOk result (AllRise 0 (term_of height nodes.now)) }
+    requires short { HasShortLeaves (term_of height cells.now.nodes) }
+    requires hashed { cells.now.hashes ≡ hashes_of 0 (term_of height cells.now.nodes) }
+    requires indexed { AreIndexes cells.now.nodes indexes.now }
+    ensures answer { AnswersTreeChecks S.crypto group_id.now (term_of height cells.now.nodes) result }
+    ensures lists { Refuses (require 23 (has_good_lists (term_of height cells.now.nodes))) result }
+    ensures rising { OnOk result (AllRise 0 (term_of height cells.now.nodes)) }
 {
-    if !has_good_lists(nodes, height) {
+    if !has_good_lists(cells, height) {
         return Err(TreeError::UnmergedWrong);
     }
-    if !has_good_hashes(alloc, nodes, kept, height)? {
+    if !has_good_hashes(alloc, cells, height)? {
         return Err(TreeError::ParentHashWrong);
     }
     if !indexes.has_distinct_keys() {
@@ -180,13 +175,13 @@ fn check<S: Suite>(
     if !indexes.has_distinct_clients() {
         return Err(TreeError::ClientRepeated);
     }
-    if !are_all_signed::<S>(alloc, nodes, height, group_id)? {
+    if !are_all_signed::<S>(alloc, cells, height, group_id)? {
         return Err(TreeError::LeafSignature);
     }
-    if !are_all_capable(nodes, height, S::NUMBER) {
+    if !are_all_capable(cells, height, S::NUMBER) {
         return Err(TreeError::LeafCapability);
     }
-    if !are_all_fit::<S>(nodes, height) {
+    if !are_all_fit::<S>(cells, height) {
         return Err(TreeError::BadKey);
     }
     Ok(())
@@ -210,16 +205,9 @@ impl PublicTree {
         ensures warms { Warms self.old self.new }
     {
         let _tree_hash = self.tree_hash();
-        let alloc = *self.nodes.allocator();
-        let kept = self.hashes.as_slice();
-        check::<S>(
-            alloc,
-            &self.nodes,
-            kept,
-            &self.indexes,
-            self.height,
-            group_id,
-        )
+        let alloc = self.cells.allocator();
+        let (cells, indexes) = (&self.cells, &self.indexes);
+        check::<S>(alloc, cells, indexes, self.height, group_id)
     }
 
     /// Whether no two nodes have one encryption key (RFC 9420, 7.3).

@@ -124,8 +124,7 @@ impl PublicTree {
             Ok(parents) => parents,
         };
         let height = self.height;
-        merge_with_indexes(&mut self.nodes, &mut self.indexes, height, i, leaf, parents)?;
-        self.hashes.drop_way(height, i);
+        merge_with_indexes(&mut self.cells, &mut self.indexes, height, i, leaf, parents)?;
         Ok(())
     }
 

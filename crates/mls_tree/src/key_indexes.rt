@@ -1,15 +1,15 @@
 //! The indexes that a tree keeps, so that no commit sorts its keys.
 
-ghost use Rattle.std.specs.Prelude.{◌≡◌, ℕ, ◌≤◌, ◌^◌, nat_eq, true, take, length, IfOk, OnOk};
+ghost use Rattle.std.specs.Prelude.{◌≡◌, ℕ, ◌+◌, ◌*◌, ◌≤◌, ◌^◌, nat_eq, true, take, length, IfOk, OnOk};
 ghost use Rattle.mls_tree_model.specs.Sets.{is_distinct};
 ghost use Rattle.mls_tree_model.specs.Good.{has_distinct_keys, has_distinct_clients};
-ghost use Rattle.mls_tree.specs.IndexedKeys.{AreIndexes, AreBeside, HaveRoom, AreSame, KeepsIndexes, EntersNode, LeavesNodes, EntersNodes, AnswersTest};
+ghost use Rattle.mls_tree.specs.IndexedKeys.{AreIndexes, AreBeside, AreOwn, StayOwn, HaveRoom, LeavesRoom, AreSame, KeepsIndexes, EntersNode, LeavesNodes, EntersNodes, AnswersTest};
 
+use mls_tree_cells::Cells;
 use mls_tree_index::{Index, KeyKind};
-use mls_tree_slot::Slot;
 use std::alloc::{AllocError, Global};
 
-/// The indexes of the cells of a tree.
+/// The indexes of the cells of a tree. An edit takes at most two of their room to enter a cell, and one to take it out.
 #[derive(Drop)]
 pub(crate) struct KeyIndexes {
     /// Of all nodes, by encryption key.
@@ -20,48 +20,69 @@ pub(crate) struct KeyIndexes {
 
 impl KeyIndexes {
     /// The indexes of these cells.
-    pub(crate) fn build(alloc: Global, cells: &[Slot]) -> Result<KeyIndexes, AllocError>
-        requires { length cells.now ≤ 2 ^ 32 }
-        ensures { IfOk result (λ t. AreIndexes cells.now t) }
+    pub(crate) fn build(alloc: Global, cells: &Cells) -> Result<KeyIndexes, AllocError>
+        requires { length cells.now.nodes ≤ 2 ^ 32 }
+        ensures { IfOk result (λ t. AreIndexes cells.now.nodes t) }
     {
         let keys = Index::build(alloc, KeyKind::Encryption, cells)?;
         let clients = Index::build(alloc, KeyKind::Signature, cells)?;
         Ok(KeyIndexes { keys, clients })
     }
 
-    /// Makes room for so many more cells. Without memory for it all stays.
+    /// Makes so much room. Without memory for it all stays.
     pub(crate) fn reserve(&mut self, count: usize) -> Result<(), AllocError>
         ensures room { OnOk result (HaveRoom count self.new) }
+        ensures own { StayOwn self.old self.new }
         ensures same { AreSame self.old self.new }
     {
         self.keys.reserve(count)?;
         self.clients.reserve(count)
     }
 
+    /// Lets later copies share their blocks.
+    pub(crate) fn share(&mut self)
+        ensures { AreSame self.old self.new }
+    {
+        self.keys.share();
+        self.clients.share();
+    }
+
+    /// Gives them blocks that no copy shares. Without memory for it they are as before.
+    pub(crate) fn make_own(&mut self) -> Result<(), AllocError>
+        ensures own { OnOk result (AreOwn self.new) }
+        ensures same { AreSame self.old self.new }
+    {
+        self.keys.make_own()?;
+        self.clients.make_own()
+    }
+
     /// Enters a cell: after it was filled, where it was blank.
-    pub(crate) fn enter(&mut self, cells: &[Slot], x: u32)
-        requires { HaveRoom 1 self.old }
-        ensures { EntersNode x cells.now self.old self.new }
+    pub(crate) fn enter(&mut self, cells: &Cells, x: u32)
+        requires { HaveRoom 2 self.old }
+        ensures { EntersNode x cells.now.nodes self.old self.new }
     {
         self.keys.enter(cells, x);
         self.clients.enter(cells, x);
     }
 
     /// Takes out the cells at some places, each given once: before they are blanked or replaced.
-    pub(crate) fn leave_all(&mut self, cells: &[Slot], places: &[u32])
-        requires { is_distinct nat_eq places.now ≡ true }
-        ensures room { (n : ℕ) → HaveRoom n self.old → HaveRoom n self.new }
-        ensures left { LeavesNodes places.now cells.now self.old self.new }
+    pub(crate) fn leave_all(&mut self, cells: &Cells, places: &[u32])
+        requires distinct { is_distinct nat_eq places.now ≡ true }
+        requires room { HaveRoom (length places.now) self.old }
+        ensures room { LeavesRoom (length places.now) self.old self.new }
+        ensures own { StayOwn self.old self.new }
+        ensures left { LeavesNodes places.now cells.now.nodes self.old self.new }
     {
         self.keys.leave_all(cells, places);
         self.clients.leave_all(cells, places);
     }
 
     /// Enters the cells at some places, each given once: after they were blanked or replaced.
-    pub(crate) fn enter_all(&mut self, cells: &[Slot], places: &[u32])
+    pub(crate) fn enter_all(&mut self, cells: &Cells, places: &[u32])
         requires distinct { is_distinct nat_eq places.now ≡ true }
-        requires room { HaveRoom (length places.now) self.old }
-        ensures { EntersNodes places.now cells.now self.old self.new }
+        requires room { HaveRoom (2 * length places.now) self.old }
+        ensures own { StayOwn self.old self.new }
+        ensures entered { EntersNodes places.now cells.now.nodes self.old self.new }
     {
         self.keys.enter_all(cells, places);
         self.clients.enter_all(cells, places);
@@ -69,10 +90,11 @@ impl KeyIndexes {
 
     /// Takes out the cells of a leaf's way, but from the index of clients where that is kept: before the leaf and the
     /// parents over it are replaced.
-    pub(crate) fn leave_path(&mut self, cells: &[Slot], way: &[u32], kept: bool)
-        requires { is_distinct nat_eq way.now ≡ true }
-        ensures room { (n : ℕ) → HaveRoom n self.old → HaveRoom n self.new }
-        ensures left { AreIndexes cells.now self.old → AreBeside kept way.now cells.now self.new }
+    pub(crate) fn leave_path(&mut self, cells: &Cells, way: &[u32], kept: bool)
+        requires distinct { is_distinct nat_eq way.now ≡ true }
+        requires room { HaveRoom (length way.now) self.old }
+        ensures room { LeavesRoom (length way.now) self.old self.new }
+        ensures left { AreIndexes cells.now.nodes self.old → AreBeside kept way.now cells.now.nodes self.new }
     {
         self.keys.leave_all(cells, way);
         if !kept {
@@ -81,10 +103,10 @@ impl KeyIndexes {
     }
 
     /// Enters the cells of a leaf's way, but into the index of clients where that was kept: after they were replaced.
-    pub(crate) fn enter_path(&mut self, cells: &[Slot], way: &[u32], kept: bool)
+    pub(crate) fn enter_path(&mut self, cells: &Cells, way: &[u32], kept: bool)
         requires distinct { is_distinct nat_eq way.now ≡ true }
-        requires room { HaveRoom (length way.now) self.old }
-        ensures { AreBeside kept way.now cells.now self.old → AreIndexes cells.now self.new }
+        requires room { HaveRoom (2 * length way.now) self.old }
+        ensures { AreBeside kept way.now cells.now.nodes self.old → AreIndexes cells.now.nodes self.new }
     {
         self.keys.enter_all(cells, way);
         if !kept {
@@ -92,10 +114,11 @@ impl KeyIndexes {
         }
     }
 
-    /// Takes out all cells from this number on: before they are cut off.
-    pub(crate) fn leave_from(&mut self, cells: &[Slot], count: usize)
-        requires { length cells.now ≤ 2 ^ 32 }
-        ensures { KeepsIndexes cells.now (take count cells.now) self.old self.new }
+    /// Takes out all cells from this number on: before they are cut off. Takes no room.
+    pub(crate) fn leave_from(&mut self, cells: &Cells, count: usize)
+        requires fits { length cells.now.nodes ≤ 2 ^ 32 }
+        requires own { AreOwn self.old }
+        ensures { KeepsIndexes cells.now.nodes (take count cells.now.nodes) self.old self.new }
     {
         self.keys.leave_from(cells, count);
         self.clients.leave_from(cells, count);

@@ -4,6 +4,7 @@ ghost use Rattle.std.specs.Prelude.{◌≡◌, ◌≤◌, length, Ok, IfOk, OnOk
 ghost use Rattle.std.specs.Bool.{OnTrue};
 ghost use Rattle.mls_wire.specs.Checks.{passed};
 ghost use Rattle.mls_treemath.specs.Limits.{max_height};
+ghost use Rattle.mls_treemath.specs.Paths.{nodes_in};
 ghost use Rattle.mls_tree_model.specs.Node.{source_hash};
 ghost use Rattle.mls_tree_model.specs.Term.{leaf_of};
 ghost use Rattle.mls_tree_model.specs.Way.{path_length};
@@ -16,7 +17,7 @@ ghost use Rattle.mls_tree_array.specs.Standing.{Stands};
 ghost use Rattle.mls_tree_array.specs.Merging.{hash_bytes};
 ghost use Rattle.mls_tree_array.specs.PathParents.{HasParents};
 ghost use Rattle.mls_tree.specs.ColdNodes.{Warms, WarmsThenChills};
-ghost use Rattle.mls_tree.specs.IndexedKeys.{AreSame, IsClient};
+ghost use Rattle.mls_tree.specs.IndexedKeys.{IsClient};
 ghost use Rattle.mls_tree.specs.EditsKeepGood.{KeepsGoodAt, MakesGood};
 ghost use Rattle.mls_tree.specs.Refusals.{PassesOutright, AnswersChecks, AnswersList, Refuses, AnswersMerge};
 ghost use Rattle.mls_tree.specs.Tree.{term};
@@ -28,57 +29,52 @@ use crate::key_indexes::KeyIndexes;
 use crate::tree::PublicTree;
 use crate::way::Way;
 use mls_leaf::{Bytes, LeafNode, LeafSource};
-use mls_tree_array::{self as array, Hash, MergedPath};
-use mls_tree_slot::{SharedLeaf, SharedParent, Slot};
+use mls_tree_array::{self as array, Hash, MergedPath, Subtree};
+use mls_tree_cells::Cells;
+use mls_tree_slot::{SharedLeaf, SharedParent};
 use std::alloc::AllocError;
 
-/// Merges a path whose parents these are, the highest first. Takes no memory.
-fn merge(nodes: &mut Vec<Slot>, height: u32, i: u32, leaf: SharedLeaf, parents: Vec<SharedParent>)
-    requires stands { Stands height nodes.old.items }
-    requires low { height ≤ max_height }
-    ensures { MergesParents height i leaf parents nodes.old nodes.new }
-{
-    let mut parents = parents.into_iter();
-    array::merge(nodes, height, 0, i, &mut parents, leaf);
-}
-
 /// Whether leaf i has this signature key.
-fn is_client(nodes: &[Slot], height: u32, i: u32, key: &Bytes) -> bool
-    requires { Stands height nodes.now }
-    ensures { OnTrue result (IsClient key.now (leaf_of (term_of height nodes.now) i)) }
+fn is_client(cells: &Cells, height: u32, i: u32, key: &Bytes) -> bool
+    requires { Stands height cells.now.nodes }
+    ensures { OnTrue result (IsClient key.now (leaf_of (term_of height cells.now.nodes) i)) }
 {
-    match array::leaf(nodes, height, i) {
+    match array::leaf(cells, height, i) {
         Some(leaf) => leaf.signature_key == *key,
         None => false,
     }
 }
 
 /// Merges a path whose parents these are, the highest first, and its keys into the indexes. Where the leaf keeps its
-/// signature key, the index of clients stays as it is. Without memory for the leaf or the indexes all stays.
+/// signature key, the index of clients stays as it is. Without memory all stays.
 pub(crate) fn merge_with_indexes(
-    nodes: &mut Vec<Slot>,
+    cells: &mut Cells,
     indexes: &mut KeyIndexes,
     height: u32,
     i: u32,
     leaf: LeafNode,
     parents: Vec<SharedParent>,
 ) -> Result<(), AllocError>
-    requires stands { Stands height nodes.old.items }
+    requires stands { Stands height cells.old.nodes }
     requires low { height ≤ max_height }
-    ensures merged { OnOk result (MergesParents height i leaf parents nodes.old nodes.new) }
-    ensures indexed { Follows height i parents nodes.old nodes.new indexes.old indexes.new result }
-    ensures unchanged { OnErr result (nodes.new.items ≡ nodes.old.items) }
-    ensures same { OnErr result (AreSame indexes.old indexes.new) }
+    requires long { length cells.old.hashes ≡ nodes_in height }
+    ensures merged { OnOk result (MergesParents height i leaf parents cells.old cells.new) }
+    ensures unchanged { OnErr result (cells.new ≡ cells.old) }
+    ensures indexed { Follows height i parents cells.old cells.new indexes.old indexes.new }
 {
-    let kept = is_client(nodes, height, i, &leaf.signature_key);
-    let leaf = SharedLeaf::new(*nodes.allocator(), leaf)?;
+    let kept = is_client(cells, height, i, &leaf.signature_key);
+    let alloc = cells.allocator();
+    let leaf = SharedLeaf::new(alloc, leaf)?;
+    let changes = array::merge_changes(alloc, &Subtree::of(cells, height), i, parents, leaf)?;
     let way = Way::over(height, i);
     let places = way.as_slice();
-    indexes.reserve(places.len())?;
-    indexes.leave_path(nodes, places, kept);
-    merge(nodes, height, i, leaf, parents);
-    indexes.enter_path(nodes, places, kept);
-    Ok(())
+    // Each place leaves and enters.
+    indexes.reserve(3 * places.len())?;
+    indexes.leave_path(cells, places, kept);
+    let done = cells.put(changes);
+    // Where nothing was put, the same cells enter again.
+    indexes.enter_path(cells, places, kept);
+    done
 }
 
 /// Whether the leaf's source is a commit with this parent hash.
@@ -113,7 +109,7 @@ impl PublicTree {
         ensures parents { IfOk result (HasParents 0 (term self.now) i keys.items) }
         ensures hash { IfOk result (HasPathHash (term self.now) i keys.items) }
     {
-        let alloc = *self.nodes.allocator();
+        let alloc = self.cells.allocator();
         let path = array::path_parents(alloc, &self.hashed_subtree(), i, keys)?;
         Ok(path)
     }
@@ -131,7 +127,7 @@ impl PublicTree {
         let way = Way::over(self.height, i);
         let places = way.as_slice();
         let index = &self.indexes.keys;
-        index.accepts_beside(&self.nodes, places, &leaf.encryption_key, keys)
+        index.accepts_beside(&self.cells, places, &leaf.encryption_key, keys)
     }
 
     /// Refuses a leaf index at which no member is, and then a number of keys that isn't that of the filtered path.
@@ -189,7 +185,7 @@ impl PublicTree {
             Ok(()) => {}
         }
         let levels = self.height as usize;
-        let mut counts = Vec::with_capacity(*self.nodes.allocator(), levels)?;
+        let mut counts = Vec::with_capacity(self.cells.allocator(), levels)?;
         array::ciphertext_counts(&self.subtree(), i, added, &mut counts)?;
         Ok(counts)
     }
@@ -199,7 +195,7 @@ impl PublicTree {
     pub fn last_path(&self) -> Result<Vec<u32>, AllocError>
         ensures { IfOk result (λ v. v.items ≡ last_path (term self.now)) }
     {
-        array::last_path(*self.nodes.allocator(), &self.subtree())
+        array::last_path(self.cells.allocator(), &self.subtree())
     }
 
     /// The parent hash that the leaf of a path with these keys must have, the lowest first: empty where the filtered
@@ -218,7 +214,7 @@ impl PublicTree {
         }
         let _tree_hash = self.tree_hash();
         let hash = self.path_hash(i, keys);
-        Ok(Vec::from_slice(*self.nodes.allocator(), array::bytes_of(&hash))?)
+        Ok(Vec::from_slice(self.cells.allocator(), array::bytes_of(&hash))?)
     }
 
     /// Merges a commit's path: replaces the leaf of member i, gives the parents of its filtered path these keys, the
@@ -246,8 +242,7 @@ impl PublicTree {
             Ok(parents) => parents,
         };
         let height = self.height;
-        merge_with_indexes(&mut self.nodes, &mut self.indexes, height, i, leaf, parents)?;
-        self.hashes.drop_way(height, i);
+        merge_with_indexes(&mut self.cells, &mut self.indexes, height, i, leaf, parents)?;
         Ok(())
     }
 }

@@ -61,7 +61,7 @@ impl PublicTree {
         ensures { IfOk result (AreHashesOver (term self.now) i parents.now leaf.now) }
     {
         let levels = self.height as usize + 1;
-        let mut hashes = Vec::with_capacity(*self.nodes.allocator(), levels)?;
+        let mut hashes = Vec::with_capacity(self.cells.allocator(), levels)?;
         let mut done = 0;
         let tree = self.hashed_subtree();
         let root = array::merged_hashes(&tree, i, parents, leaf, &mut hashes, &mut done)?;
@@ -98,7 +98,7 @@ impl PublicTree {
     }
 
     /// Merges a path that was prepared for this tree, in which no node is cold before or after: nothing is checked
-    /// again, and no hash made. Without memory for the leaf or the indexes the tree is as before.
+    /// again, and no hash made. Without memory the tree is as before.
     pub fn follow_path(&mut self, path: PreparedPath) -> Result<(), AllocError>
         requires warm { self.old.hashes ≡ hashes_of 0 (term self.old) }
         requires prepared { IsFor (term self.old) path }
@@ -113,9 +113,9 @@ impl PublicTree {
         ensures unchanged { OnErr result (self.new ≡ self.old) }
     {
         let height = self.height;
-        let (nodes, indexes) = (&mut self.nodes, &mut self.indexes);
-        merge_with_indexes(nodes, indexes, height, path.index, path.leaf, path.parents)?;
-        self.hashes.put_way(height, path.index, &path.hashes);
+        let (cells, indexes) = (&mut self.cells, &mut self.indexes);
+        merge_with_indexes(cells, indexes, height, path.index, path.leaf, path.parents)?;
+        array::put_hashes(cells, height, path.index, &path.hashes, &mut self.done);
         Ok(())
     }
 }

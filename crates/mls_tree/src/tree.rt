@@ -1,9 +1,11 @@
 //! The public tree.
 
-ghost use Rattle.std.specs.Prelude.{◌≡◌, ◌≤◌, not, [], Some, true, IfOk, OnOk, OnErr, length};
+ghost use Rattle.std.specs.Prelude.{◌≡◌, ◌≤◌, not, [], Some, IsSome, true, IfOk, OnOk, OnErr, length};
+ghost use Rattle.std.specs.Bool.{OnTrue};
 ghost use Rattle.std.specs.Option.{option_copied};
 ghost use Rattle.mls_wire.specs.Checks.{Answers};
 ghost use Rattle.mls_tree_model.specs.Term.{Leaf, leaf_of, width};
+ghost use Rattle.mls_tree_model.specs.Edits.{remove};
 ghost use Rattle.mls_tree_model.specs.Places.{resolution_at};
 ghost use Rattle.mls_tree_model.specs.Resolution.{is_empty};
 ghost use Rattle.mls_tree_model.specs.Keys.{members};
@@ -11,32 +13,35 @@ ghost use Rattle.mls_tree_model.specs.Hashes.{tree_hash};
 ghost use Rattle.mls_tree_model.specs.Arrays.{from_nodes, to_nodes, node_at};
 ghost use Rattle.mls_tree_model.specs.Good.{has_good_shape};
 ghost use Rattle.mls_tree_hash.specs.Counter.{counted};
+ghost use Rattle.mls_tree_array.specs.EndOfMembers.{end_of_members};
 ghost use Rattle.mls_tree_array.specs.KeptHashes.{hashes_of, cold_places};
+ghost use Rattle.mls_tree.specs.Bounds.{IsLastBeside};
 ghost use Rattle.mls_tree.specs.ColdNodes.{IsNewTree, Chills, AddChills};
 ghost use Rattle.mls_tree.specs.Faults.{number_of};
 ghost use Rattle.mls_tree.specs.EditsKeepGood.{IsGoodIfNew, AddKeepsGood, AddKeepsSound, KeepsGoodAt, KeepsSoundAt, RemoveKeepsGood, RemoveKeepsSound};
 ghost use Rattle.mls_tree.specs.Refusals.{Refuses, AnswersMember, AnswersList, AnswersAdd, AnswersUpdate, AnswersRemove};
 ghost use Rattle.mls_tree.specs.ShortLeaves.{AreShort, HasShortLeaves};
-ghost use Rattle.mls_tree.specs.Tree.{term, max_leaves, path_answer, add_answer, update_answer};
+ghost use Rattle.mls_tree.specs.Tree.{term, max_leaves, path_answer, add_answer, update_answer, remove_answer};
 
 use crate::edits;
 use crate::error::TreeError;
 use crate::key_indexes::KeyIndexes;
-use crate::way::Way;
 use mls_leaf::{LeafNode, Node};
-use mls_tree_array::{self as array, Hash, HashedSubtree, Hashes, Subtree};
+use mls_tree_array::{self as array, Hash, HashedSubtree, Subtree};
+use mls_tree_cells::Cells;
 use mls_tree_slot::{SharedLeaf, Slot};
 use mls_treemath::MAX_HEIGHT;
 use std::alloc::{AllocError, Global};
 use std::marker::Model;
 
 /// The public tree of a group: at most `MAX_LEAVES` leaves, a power of two, each a member or blank, and the parents
-/// over them. Its methods use the allocator that it was made with. A copy shares the nodes, and an edit copies only
-/// those that it changes.
+/// over them. Its methods use the allocator that it was made with. A copy shares the nodes, and the chunks that they
+/// stand in where the tree was shared before; an edit copies only those that it changes.
 #[derive(Drop)]
 pub struct PublicTree {
-    pub(crate) nodes: Vec<Slot>,
-    pub(crate) hashes: Hashes,
+    pub(crate) cells: Cells,
+    /// How many hashes of nodes were made.
+    pub(crate) done: u64,
     pub(crate) indexes: KeyIndexes,
     pub(crate) height: u32,
     /// Each leaf before this one is taken.
@@ -57,9 +62,9 @@ impl Model for PublicTree {
 
     ghost Value = { Tree };
 
-    ghost view = { λ t. record { height = t.height; nodes = t.nodes.items; hashes = t.hashes.kept; hash_count = t.hashes.done } };
+    ghost view = { λ t. record { height = t.height; nodes = t.cells.nodes; hashes = t.cells.hashes; hash_count = t.done } };
 
-    ghost invariant = { λ t. Stands t.height t.nodes.items × (t.height ≤ max_height) × Keeps 0 (term_of t.height t.nodes.items) t.hashes.kept × Bounds (term_of t.height t.nodes.items) t.full_to t.blank_from × AreIndexes t.nodes.items t.indexes };
+    ghost invariant = { λ t. Stands t.height t.cells.nodes × (t.height ≤ max_height) × Keeps 0 (term_of t.height t.cells.nodes) t.cells.hashes × Bounds (term_of t.height t.cells.nodes) t.full_to t.blank_from × AreIndexes t.cells.nodes t.indexes };
 }
 
 impl PublicTree {
@@ -73,11 +78,11 @@ impl PublicTree {
         let mut nodes = Vec::with_capacity(alloc, 1)?;
         let leaf = SharedLeaf::new(alloc, leaf)?;
         nodes.push(leaf.into_slot())?;
-        let hashes = Hashes::new_cold(alloc, 1)?;
-        let indexes = KeyIndexes::build(alloc, &nodes)?;
+        let cells = Cells::from_slots(nodes)?;
+        let indexes = KeyIndexes::build(alloc, &cells)?;
         Ok(PublicTree {
-            nodes,
-            hashes,
+            cells,
+            done: 0,
             indexes,
             height: 0,
             full_to: 0,
@@ -113,11 +118,11 @@ impl PublicTree {
         }
         let mut nodes = nodes;
         array::pad_tree(&mut nodes, height)?;
-        let hashes = Hashes::new_cold(*nodes.allocator(), nodes.len())?;
-        let indexes = KeyIndexes::build(*nodes.allocator(), &nodes)?;
+        let cells = Cells::from_slots(nodes)?;
+        let indexes = KeyIndexes::build(cells.allocator(), &cells)?;
         Ok(PublicTree {
-            nodes,
-            hashes,
+            cells,
+            done: 0,
             indexes,
             height,
             full_to: 0,
@@ -130,15 +135,14 @@ impl PublicTree {
     pub fn to_nodes(&self) -> Result<Vec<Slot>, AllocError>
         ensures { IfOk result (λ v. v.items ≡ to_nodes (term self.now)) }
     {
-        let sent = array::to_nodes(*self.nodes.allocator(), &self.nodes)?;
-        Ok(sent)
+        array::to_nodes(self.cells.allocator(), &self.cells)
     }
 
     /// The tree as a subtree of itself.
     pub(crate) fn subtree(&self) -> Subtree<'_>
         ensures { result ≡ record { first = 0; term = term self.now } }
     {
-        Subtree::of(&self.nodes, self.height)
+        Subtree::of(&self.cells, self.height)
     }
 
     /// The tree as a subtree of itself with its hashes, where no node is cold.
@@ -146,7 +150,7 @@ impl PublicTree {
         requires { self.now.hashes ≡ hashes_of 0 (term self.now) }
         ensures { result ≡ record { first = 0; term = term self.now } }
     {
-        HashedSubtree::of(self.subtree(), self.hashes.as_slice())
+        HashedSubtree::of(&self.cells, self.height)
     }
 
     /// How many leaves it has, blank ones too.
@@ -167,7 +171,7 @@ impl PublicTree {
     pub fn leaf(&self, i: u32) -> Option<&LeafNode>
         ensures { option_copied result ≡ leaf_of (term self.now) i }
     {
-        array::leaf(&self.nodes, self.height, i)
+        array::leaf(&self.cells, self.height, i)
     }
 
     /// Refuses a leaf index at which no member is.
@@ -184,7 +188,7 @@ impl PublicTree {
     pub fn node(&self, x: u32) -> Option<&Node>
         ensures { option_copied result ≡ node_at 0 (term self.now) x }
     {
-        array::node(&self.nodes, self.height, x)
+        array::node(&self.cells, self.height, x)
     }
 
     /// The resolution of node x, as node indices (RFC 9420, 4.1.1); empty where the tree has no such node. An entry of
@@ -192,7 +196,7 @@ impl PublicTree {
     pub fn resolution(&self, x: u32) -> Result<Vec<u64>, AllocError>
         ensures { IfOk result (λ v. v.items ≡ resolution_at 0 (term self.now) x) }
     {
-        let mut nodes = Vec::new(*self.nodes.allocator());
+        let mut nodes = Vec::new(self.cells.allocator());
         array::resolution_at(&self.subtree(), x, &mut nodes)?;
         Ok(nodes)
     }
@@ -215,7 +219,7 @@ impl PublicTree {
             Err(error) => return Err(error),
             Ok(()) => {}
         }
-        let mut nodes = Vec::new(*self.nodes.allocator());
+        let mut nodes = Vec::new(self.cells.allocator());
         array::filtered_path(&self.subtree(), i, &mut nodes)?;
         Ok(nodes)
     }
@@ -229,7 +233,7 @@ impl PublicTree {
         ensures counted { self.new.hash_count ≡ counted self.old.hash_count
             (cold_places self.old.hashes) }
     {
-        self.hashes.fill(&self.nodes, self.height)
+        array::tree_hash(&mut self.cells, self.height, &mut self.done)
     }
 
     /// How many hashes of nodes were made of this tree and those that it was copied from; the counter stays at its
@@ -237,7 +241,15 @@ impl PublicTree {
     pub fn hashes_done(&self) -> u64
         ensures { result ≡ self.now.hash_count }
     {
-        self.hashes.done()
+        self.done
+    }
+
+    /// Lets later copies share the chunks of its cells whose hashes are all kept, and its indexes.
+    pub fn share(&mut self)
+        ensures { self.new ≡ self.old }
+    {
+        self.cells.share();
+        self.indexes.share();
     }
 
     /// Adds a member at the leftmost blank leaf, in a tree of twice the leaves where none is blank, and answers its
@@ -253,14 +265,12 @@ impl PublicTree {
         ensures unchanged { OnErr result (self.new ≡ self.old) }
     {
         let height = self.height;
-        let alloc = *self.nodes.allocator();
-        match array::first_blank(&Subtree::of(&self.nodes, height), self.full_to) {
+        match array::first_blank(&Subtree::of(&self.cells, height), self.full_to) {
             Some(i) => {
-                let leaf = SharedLeaf::new(alloc, leaf)?;
-                self.indexes.reserve(1)?;
-                edits::enter(&mut self.nodes, height, i, leaf)?;
-                self.indexes.enter(&self.nodes, 2 * i);
-                self.hashes.drop_way(height, i);
+                let leaf = SharedLeaf::new(self.cells.allocator(), leaf)?;
+                self.indexes.reserve(2)?;
+                edits::enter(&mut self.cells, height, i, leaf)?;
+                self.indexes.enter(&self.cells, 2 * i);
                 self.full_to = i + 1;
                 self.blank_from = self.blank_from.max(i + 1);
                 Ok(i)
@@ -269,10 +279,10 @@ impl PublicTree {
                 if height == MAX_HEIGHT {
                     return Err(TreeError::TreeFull);
                 }
-                let leaf = SharedLeaf::new(alloc, leaf)?;
-                self.indexes.reserve(1)?;
-                edits::append(&mut self.nodes, &mut self.hashes, height, leaf)?;
-                self.indexes.enter(&self.nodes, 1 << (height + 1));
+                let leaf = SharedLeaf::new(self.cells.allocator(), leaf)?;
+                self.indexes.reserve(2)?;
+                edits::append(&mut self.cells, height, leaf)?;
+                self.indexes.enter(&self.cells, 1 << (height + 1));
                 self.height = height + 1;
                 self.full_to = (1 << height) + 1;
                 self.blank_from = (1 << height) + 1;
@@ -297,22 +307,73 @@ impl PublicTree {
             Err(error) => return Err(error),
             Ok(()) => {}
         }
-        let leaf = SharedLeaf::new(*self.nodes.allocator(), leaf)?;
+        let leaf = SharedLeaf::new(self.cells.allocator(), leaf)?;
+        let (cells, indexes) = (&mut self.cells, &mut self.indexes);
+        edits::put_with_indexes(cells, indexes, self.height, i, Some(leaf))?;
+        Ok(())
+    }
+
+    /// One past the rightmost member.
+    fn end_of_members(&self) -> u32
+        ensures { result ≡ end_of_members 0 (term self.now) }
+    {
+        array::end_of_members(&self.subtree(), self.blank_from)
+    }
+
+    /// Whether the last member, where the members end here, is another one than i, and on the right half.
+    fn is_last_beside(&self, i: u32, end: u32) -> bool
+        requires member { IsSome (leaf_of (term self.now) i) }
+        requires end { end ≡ end_of_members 0 (term self.now) }
+        ensures { OnTrue result (IsLastBeside i end (term self.now)) }
+    {
+        let leaves = 1u32 << self.height;
+        i + 1 < end && leaves < 2 * end
+    }
+
+    /// Removes member i, where the members end here with another one on the right half, so that the tree isn't halved.
+    /// Without memory the tree is as before.
+    fn remove_inside(&mut self, i: u32, end: u32) -> Result<(), AllocError>
+        requires member { IsSome (leaf_of (term self.old) i) }
+        requires end { end ≡ end_of_members 0 (term self.old) }
+        requires last { IsLastBeside i end (term self.old) }
+        ensures tree { OnOk result (term self.new ≡ remove (term self.old) i) }
+        ensures cold { OnOk result (Chills (term self.old) i self.old self.new) }
+        ensures unchanged { OnErr result (self.new ≡ self.old) }
+    {
+        let (cells, indexes) = (&mut self.cells, &mut self.indexes);
+        edits::put_with_indexes(cells, indexes, self.height, i, None)?;
+        self.full_to = self.full_to.min(i);
+        self.blank_from = end;
+        Ok(())
+    }
+
+    /// Removes member i, where the members end here, and halves the tree as long as its right half has no member. A cut
+    /// takes no memory where the indexes are its own, so they are before anything is edited. Without memory the tree is
+    /// as before.
+    fn remove_and_trim(&mut self, i: u32, end: u32) -> Result<(), AllocError>
+        requires member { IsSome (leaf_of (term self.old) i) }
+        requires end { end ≡ end_of_members 0 (term self.old) }
+        ensures tree { OnOk result (term self.new ≡ remove (term self.old) i) }
+        ensures cold { OnOk result (Chills (term self.old) i self.old self.new) }
+        ensures unchanged { OnErr result (self.new ≡ self.old) }
+    {
         let height = self.height;
-        let way = Way::over(height, i);
-        let places = way.as_slice();
-        self.indexes.reserve(places.len())?;
-        self.indexes.leave_all(&self.nodes, places);
-        edits::put(&mut self.nodes, height, i, Some(leaf));
-        self.indexes.enter_all(&self.nodes, places);
-        self.hashes.drop_way(height, i);
+        self.indexes.make_own()?;
+        let (cells, indexes) = (&mut self.cells, &mut self.indexes);
+        edits::put_with_indexes(cells, indexes, height, i, None)?;
+        let end = array::end_of_members(&Subtree::of(&self.cells, height), end);
+        self.height = edits::trim(&mut self.cells, &mut self.indexes, height, end);
+        self.full_to = self.full_to.min(i);
+        self.blank_from = end;
         Ok(())
     }
 
     /// Blanks the leaf of member i and the parents over it, and halves the tree as long as its right half has no member
-    /// (RFC 9420, 12.1.3); `NoSuchLeaf` (22) where no member is there. Takes no memory.
+    /// (RFC 9420, 12.1.3); `NoSuchLeaf` (22) where no member is there. After a refusal the tree is as before.
     pub fn remove(&mut self, i: u32) -> Result<(), TreeError>
         ensures answer { AnswersRemove i self.old self.new result }
+        // `NoSuchLeaf` (22) comes also when an allocation fails.
+        ensures outright { Refuses (remove_answer (term self.old) i) result }
         // A good tree stays good where another member is left, and a sound one sound.
         ensures good { OnOk result (RemoveKeepsGood i self.old self.new) }
         ensures sound { OnOk result (RemoveKeepsSound i self.old self.new) }
@@ -323,17 +384,11 @@ impl PublicTree {
             Err(error) => return Err(error),
             Ok(()) => {}
         }
-        let height = self.height;
-        let way = Way::over(height, i);
-        self.indexes.leave_all(&self.nodes, way.as_slice());
-        edits::put(&mut self.nodes, height, i, None);
-        self.hashes.drop_way(height, i);
-        let end = array::end_of_members(&Subtree::of(&self.nodes, height), self.blank_from);
-        self.height = edits::trim(&mut self.nodes, &mut self.indexes, height, end);
-        self.hashes.cut(self.nodes.len());
-        self.full_to = self.full_to.min(i);
-        self.blank_from = end;
-        Ok(())
+        let end = self.end_of_members();
+        if self.is_last_beside(i, end) {
+            return Ok(self.remove_inside(i, end)?);
+        }
+        Ok(self.remove_and_trim(i, end)?)
     }
 }
 
@@ -342,8 +397,8 @@ impl Clone for PublicTree {
 
     fn clone(&self) -> Result<PublicTree, AllocError> {
         Ok(PublicTree {
-            nodes: self.nodes.clone()?,
-            hashes: self.hashes.clone()?,
+            cells: self.cells.clone()?,
+            done: self.done,
             indexes: self.indexes.clone()?,
             height: self.height,
             full_to: self.full_to,

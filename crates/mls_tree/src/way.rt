@@ -59,7 +59,8 @@ impl Way {
 
     /// The numbers.
     pub(crate) fn as_slice(&self) -> &[u32]
-        ensures { result.now ≡ self.now }
+        ensures numbers { result.now ≡ self.now }
+        ensures few { length result.now ≤ suc max_height }
     {
         &self.numbers[..self.count]
     }

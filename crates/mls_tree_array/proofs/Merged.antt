@@ -1,30 +1,18 @@
 -- A merged path, by the root and its sides.
-use Rattle.std.proofs.Common.{◌≡◌, ℕ, ◌+◌, ◌-◌, ◌/◌, ◌<◌, ◌≤◌, Bool, true, false, cond, List, [], ◌∷◌, ◌++◌, length, get_or, take, drop, set, reverse, Option, Some, None, refl, sym, ◌∙◌, ap, arith, nat_lt, lt-ltb, le-ltb}
+use Rattle.std.proofs.Common.{◌≡◌, ℕ, ◌+◌, ◌-◌, ◌<◌, ◌≤◌, Bool, true, false, cond, List, [], ◌∷◌, ◌++◌, length, get_or, take, drop, reverse, Option, Some, None, refl, sym, ◌∙◌, ap, arith, nat_lt, lt-ltb, le-ltb}
 use Rattle.std.proofs.lemmas.Bool.{cond-true, cond-false, cond_both}
 use Rattle.std.proofs.lemmas.List.{take-append-drop, drop_more, drop_all, reverse-append}
 use Rattle.std.specs.Option.{option_to_list}
-use borrow.Rule.Slice.PartMut.{put_mid}
 use mir.Val.{bool_byte}
 use Rattle.mls_leaf.specs.Parent.{Parent, rises, rises_from}
 use Rattle.mls_leaf.specs.declared.leaf.LeafNode.{LeafNode}
-use Rattle.mls_leaf.specs.declared.node.Node.{Node}
-use Rattle.mls_treemath.specs.Paths.{nodes_in}
 use Rattle.mls_tree_model.specs.Term.{Term, Leaf, Branch, width}
 use Rattle.mls_tree_model.specs.Inputs.{sibling_hash}
 use Rattle.mls_tree_model.specs.Resolution.{is_reached}
 use Rattle.mls_tree_model.specs.Hashes.{tree_hash, parent_hash}
-use Rattle.mls_tree_model.specs.Merge.{new_parent, keys_below, hash_below, merge, parent_beside, keys_beside, hash_beside}
-use Rattle.mls_tree_model.specs.Arrays.{leaf_in, parent_in, leaf_cell, parent_cell, term_of, in_order}
-use Rattle.mls_tree_model.proofs.Equations.{merge_leaf, merge_left, merge_right}
+use Rattle.mls_tree_model.specs.Merge.{new_parent, keys_below, hash_below, parent_beside, keys_beside, hash_beside}
 use Rattle.mls_tree_model.proofs.MemberLaws.{original_tree-none}
-use Rattle.mls_tree_array.specs.Standing.{Stands}
-use Rattle.mls_tree_model.proofs.ArrayLaws.{width-term_of}
-use Rattle.mls_tree_array.proofs.StandingLaws.{in_order-leaf}
 use Rattle.mls_tree_array.specs.Merging.{path_parents, first_if, rest_if}
-use Rattle.mls_tree_model.proofs.ArrayLaws.{term_of-zero}
-use Rattle.mls_tree_model.specs.Laws.{HasMiddle}
-use Rattle.mls_tree_array.proofs.Middles.{split, left_of_set, right_of_set}
-use Rattle.mls_tree_array.proofs.Standings.{half, with_left, with_right, one_set}
 
 -- ---- one parent
 
@@ -110,67 +98,3 @@ pub rest_made : (f : Bool) (ks : List (List ℕ)) (g : List ℕ) (more : List Pa
 rest_made false ks g more none = refl
 rest_made true [] g more none = ap (rest_if true) (none refl) ∙ sym (none refl)
 rest_made true (k ∷ ks) g more none = refl
-
-pub merge_one : (h b i : ℕ) (xs : List (Option Node)) (ks : List (List ℕ)) (g : List ℕ) (x : LeafNode) → h ≡ 0 → length xs ≡ nodes_in h → set xs 0 (leaf_cell (Some x)) ≡ in_order (merge b (term_of h xs) i ks g x)
-merge_one h b i xs ks g x low size =
-    one_set h xs (leaf_cell (Some x)) low size
-    ∙ sym (in_order-leaf (Some x))
-    ∙ ap in_order (sym (merge_leaf b (leaf_in (get_or xs 0 None)) i ks g x))
-    ∙ ap (λ t. in_order (merge b t i ks g x)) (sym (term_of-zero xs))
-    ∙ ap (λ j. in_order (merge b (term_of j xs) i ks g x)) (sym low)
-
--- what the rest of a merge makes of a side
-abbrev pub MergesSide : ℕ → Term → ℕ → List Parent → LeafNode → List (Option Node) → Type 0
-MergesSide b t i ps x ys = (ks : List (List ℕ)) (g : List ℕ) → ps ≡ path_parents b t i ks g → ys ≡ in_order (merge b t i ks g x)
-
-module _ (h n m : ℕ) (xs : List (Option Node)) (at : HasMiddle h n m) (len : length xs ≡ n) (pos : 0 < h) (stands : Stands h xs) (b i : ℕ) (x : LeafNode) (ps qs : List Parent) (f : Bool) (c : Option Node) (is_root : c ≡ parent_cell (first_if f ps)) (are_rest : qs ≡ rest_if f ps) where
-  pub merge_in_left : (sub : List (Option Node)) → i < b + (m / 2 + 1) → ((k : ℕ) → f ≡ is_reached k (term_of (h - 1) (drop (m + 1) xs))) → MergesSide b (term_of (h - 1) (take m (set xs m c))) i qs x sub → MergesSide b (term_of h xs) i ps x (sub ++ drop m (set xs m c))
-  merge_in_left sub low reached is ks g made =
-      let l : Term = term_of (h - 1) (take m xs) in
-      let r : Term = term_of (h - 1) (drop (m + 1) xs) in
-      let root : Option Parent = parent_in (get_or xs m None) in
-      let wide : width l ≡ m / 2 + 1 = width-term_of (h - 1) (take m xs) ∙ sym (half h n m xs at len pos) in
-      let k : ℕ = b + width l in
-      let lt : i < b + width l = omega arith in
-      let new : Option Parent = parent_beside k r ks g in
-      let js : List (List ℕ) = keys_beside k r ks in
-      let d : List ℕ = hash_beside k r ks g in
-      let more : List Parent = path_parents b l i js d in
-      let none : ks ≡ [] → more ≡ [] = λ e. no_parents b l i js d (none_below (is_reached k r) ks e) in
-      let all : ps ≡ option_to_list new ++ more = made ∙ ap (λ t. path_parents b t i ks g) (split h n m xs at len pos) ∙ parents_left b root l r i ks g lt in
-      let cell : c ≡ parent_cell new = is_root ∙ ap (λ v. parent_cell (first_if v ps)) (reached k) ∙ ap (λ qs. parent_cell (first_if (is_reached k r) qs)) all ∙ ap parent_cell (first_made (is_reached k r) ks g more none) in
-      let rest : qs ≡ more = are_rest ∙ ap (λ v. rest_if v ps) (reached k) ∙ ap (rest_if (is_reached k r)) all ∙ rest_made (is_reached k r) ks g more none in
-      let same : take m (set xs m c) ≡ take m xs = left_of_set h n m xs at len pos c in
-      let side : sub ≡ in_order (merge b l i js d x) = is js d (rest ∙ ap (λ ys. path_parents b (term_of (h - 1) ys) i js d) (sym same)) ∙ ap (λ ys. in_order (merge b (term_of (h - 1) ys) i js d x)) same in
-      ap (λ a. sub ++ drop m (set xs m a)) cell
-      ∙ with_left h n m xs at len pos stands sub new (merge b l i js d x) side
-      ∙ ap in_order (sym (merge_left b root l r i ks g x lt))
-      ∙ ap (λ t. in_order (merge b t i ks g x)) (sym (split h n m xs at len pos))
-
-  pub merge_in_right : (sub : List (Option Node)) → b + (m / 2 + 1) ≤ i → ((k : ℕ) → f ≡ is_reached k (term_of (h - 1) (take m xs))) → MergesSide (b + (m / 2 + 1)) (term_of (h - 1) (take (length (set xs m c) - (m + 1)) (drop (m + 1) (set xs m c)))) i qs x sub → MergesSide b (term_of h xs) i ps x (put_mid (m + 1) (length (set xs m c) - (m + 1)) (set xs m c) sub)
-  merge_in_right sub high reached is ks g made =
-      let l : Term = term_of (h - 1) (take m xs) in
-      let r : Term = term_of (h - 1) (drop (m + 1) xs) in
-      let root : Option Parent = parent_in (get_or xs m None) in
-      let wide : width l ≡ m / 2 + 1 = width-term_of (h - 1) (take m xs) ∙ sym (half h n m xs at len pos) in
-      let k : ℕ = b + (m / 2 + 1) in
-      let ge : b + width l ≤ i = omega arith in
-      let new : Option Parent = parent_beside b l ks g in
-      let js : List (List ℕ) = keys_beside b l ks in
-      let d : List ℕ = hash_beside b l ks g in
-      let more : List Parent = path_parents k r i js d in
-      let none : ks ≡ [] → more ≡ [] = λ e. no_parents k r i js d (none_below (is_reached b l) ks e) in
-      let all : ps ≡ option_to_list new ++ more =
-      made
-      ∙ ap (λ t. path_parents b t i ks g) (split h n m xs at len pos)
-      ∙ parents_right b root l r i ks g ge
-      ∙ ap (λ w. option_to_list new ++ path_parents (b + w) r i js d) wide in
-      let cell : c ≡ parent_cell new = is_root ∙ ap (λ v. parent_cell (first_if v ps)) (reached b) ∙ ap (λ qs. parent_cell (first_if (is_reached b l) qs)) all ∙ ap parent_cell (first_made (is_reached b l) ks g more none) in
-      let rest : qs ≡ more = are_rest ∙ ap (λ v. rest_if v ps) (reached b) ∙ ap (rest_if (is_reached b l)) all ∙ rest_made (is_reached b l) ks g more none in
-      let same : take (length (set xs m c) - (m + 1)) (drop (m + 1) (set xs m c)) ≡ drop (m + 1) xs = right_of_set h n m xs at len pos c in
-      let side : sub ≡ in_order (merge k r i js d x) = is js d (rest ∙ ap (λ ys. path_parents k (term_of (h - 1) ys) i js d) (sym same)) ∙ ap (λ ys. in_order (merge k (term_of (h - 1) ys) i js d x)) same in
-      ap (λ a. put_mid (m + 1) (length (set xs m a) - (m + 1)) (set xs m a) sub) cell
-      ∙ with_right h n m xs at len pos stands sub new (merge k r i js d x) side
-      ∙ ap (λ w. in_order (Branch new l (merge (b + w) r i js d x))) (sym wide)
-      ∙ ap in_order (sym (merge_right b root l r i ks g x ge))
-      ∙ ap (λ t. in_order (merge b t i ks g x)) (sym (split h n m xs at len pos))

@@ -1,7 +1,7 @@
 -- Tree hashes that are kept beside the nodes of a tree, in node order: at a cold node there is none.
-use Rattle.std.specs.Prelude.{◌≡◌, ℕ, suc, ◌+◌, ◌*◌, nat_lt, Bool, not, if◌then◌else◌, List, [], ◌∷◌, ◌++◌, length, take, drop, map, slice_index_or, Option, Some, None, is_some, true, replicate}
+use Rattle.std.specs.Prelude.{◌≡◌, ℕ, suc, ◌+◌, ◌*◌, nat_lt, Bool, not, if◌then◌else◌, List, [], ◌∷◌, ◌++◌, length, take, drop, map, slice_index_or, Option, Some, None, is_some}
 use Rattle.std.specs.List.{count_by}
-use Rattle.mls_tree_model.specs.Term.{Term, Leaf, Branch, width, size, is_perfect}
+use Rattle.mls_tree_model.specs.Term.{Term, Leaf, Branch, width, size}
 use Rattle.mls_tree_model.specs.Way.{way}
 use Rattle.mls_tree_model.specs.Hashes.{tree_hash}
 
@@ -43,16 +43,3 @@ cold_places hs = count_by (λ h. not (is_some h)) hs
 -- leaf i and the nodes over it, its direct path (RFC 9420, 4.1.2), as node numbers
 unfoldable pub nodes_upward : ℕ → Term → ℕ → List ℕ
 nodes_upward b t i = (2 * i) ∷ map (λ s. s.node) (way b t i)
-
--- the kept hashes of a whole tree, and how many hashes of nodes were made
-pub record KeptHashes : Type 0 where
-  pub kept : List (Option (List ℕ))
-  pub done : ℕ
-
--- from one state to the other the hashes of leaf i and of the nodes over it were dropped, in a tree of height n
-abbrev pub DropsHashes : ℕ → ℕ → ℕ → List (Option (List ℕ)) → List (Option (List ℕ)) → Type 0
-DropsHashes n b i old new = (t : Term) → is_perfect n t ≡ true → new ≡ drop_hashes b t i old
-
--- from one state to the other places of so many cold nodes were added
-abbrev pub AddsCold : ℕ → KeptHashes → KeptHashes → Type 0
-AddsCold count old new = new ≡ record old { kept = old.kept ++ replicate count None }

@@ -1,3 +1,5 @@
+pub mod Spans
+pub mod Changes
 pub mod Standing
 pub mod StandingLaws
 pub mod Merging
@@ -9,7 +11,6 @@ pub mod EndOfMembers
 pub mod Splits
 pub mod WayHashes
 pub mod Additions
-pub mod Edits
 pub mod RightLists
 pub mod Originals
 pub mod Validity

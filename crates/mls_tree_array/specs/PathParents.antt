@@ -3,11 +3,8 @@ use Rattle.std.specs.Prelude.{◌≡◌, ℕ, List, [], reverse, Option, OnOk, R
 use Rattle.std.specs.Option.{option_to_list}
 use Rattle.std.specs.Global.{Vec}
 use Rattle.mls_leaf.specs.Parent.{Parent}
-use Rattle.mls_leaf.specs.declared.leaf.LeafNode.{LeafNode}
-use Rattle.mls_leaf.specs.declared.node.Node.{Node}
 use Rattle.mls_tree_model.specs.Term.{Term}
-use Rattle.mls_tree_model.specs.Merge.{merge, path_hash, parent_beside, keys_beside, hash_beside}
-use Rattle.mls_tree_model.specs.Arrays.{term_of, in_order}
+use Rattle.mls_tree_model.specs.Merge.{path_hash, parent_beside, keys_beside, hash_beside}
 use Rattle.mls_tree_array.specs.declared.merging.MergedPath.{MergedPath}
 use Rattle.mls_tree_array.specs.Additions.{Adds}
 use Rattle.mls_tree_array.specs.Subtrees.{Subtree}
@@ -48,8 +45,3 @@ HasParents b t i keys = λ p. p.parents.items ≡ path_parents b t i (reverse ke
 -- the hash of a merged path is the one that reaches leaf i of a tree
 abbrev pub HasHash : ℕ → Term → ℕ → List (List ℕ) → MergedPath → Type 0
 HasHash b t i keys = λ p. hash_bytes p.hash ≡ path_hash b t i (reverse keys) []
-
--- where these are the parents that a merge makes over leaf i, the merge was made
-abbrev pub MergesPath : ℕ → ℕ → ℕ → LeafNode → List Parent → List (Option Node) → List (Option Node) → Type 0
-MergesPath h b i leaf ps old new =
-    (ks : List (List ℕ)) (above : List ℕ) → ps ≡ path_parents b (term_of h old) i ks above → new ≡ in_order (merge b (term_of h old) i ks above leaf)

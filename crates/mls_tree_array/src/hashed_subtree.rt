@@ -1,13 +1,16 @@
 //! Subtrees with the tree hashes of all subtrees beside their nodes.
 
-ghost use Rattle.std.specs.Prelude.{◌≡◌, ℕ};
+ghost use Rattle.std.specs.Prelude.{◌≡◌, ◌^◌, ◌≤◌, ℕ, length};
+ghost use Rattle.mls_treemath.specs.Paths.{nodes_in};
 ghost use Rattle.mls_tree_model.specs.Resolution.{is_reached};
 ghost use Rattle.mls_tree_model.specs.Hashes.{tree_hash};
+ghost use Rattle.mls_tree_model.specs.Arrays.{term_of};
 ghost use Rattle.mls_tree_array.specs.KeptHashes.{hashes_of};
 ghost use Rattle.mls_tree_array.specs.HashedParts.{HasParts, HasStep};
 
 use crate::resolutions::is_reached;
 use crate::subtree::{Parts, Subtree};
+use mls_tree_cells::Cells;
 use mls_tree_hash::Hash;
 use mls_tree_slot::Slot;
 use std::marker::Model;
@@ -16,12 +19,13 @@ use std::marker::Model;
 #[derive(Drop)]
 pub struct HashedSubtree<'a> {
     tree: Subtree<'a>,
-    hashes: &'a [Option<Hash>],
+    cells: &'a Cells,
 }
 
 impl<'a> Model for HashedSubtree<'a> {
-    ghost use Rattle.std.specs.Prelude.{◌≡◌};
-    ghost use Rattle.mls_tree_array.specs.KeptHashes.{hashes_of};
+    ghost use Rattle.std.specs.Prelude.{◌+◌, ◌*◌, ◌≤◌, length};
+    ghost use Rattle.mls_tree_model.specs.Term.{size as node_count};
+    ghost use Rattle.mls_tree_array.specs.Spans.{AreHashesAt};
     ghost use Rattle.mls_tree_array.specs.Subtrees as model;
     ghost use Rattle.mls_tree_array.specs.Codes.{coded_subtree};
 
@@ -31,7 +35,7 @@ impl<'a> Model for HashedSubtree<'a> {
 
     ghost view = { λ t. t.tree };
 
-    ghost invariant = { λ t. t.hashes.now ≡ hashes_of t.tree.first t.tree.term };
+    ghost invariant = { λ t. (2 * t.tree.first + node_count t.tree.term ≤ length t.cells.now.nodes) × AreHashesAt t.tree.first t.tree.term t.cells.now.hashes };
 }
 
 /// What a subtree consists of.
@@ -59,12 +63,15 @@ pub(crate) struct HashedStep<'a> {
 }
 
 impl<'a> HashedSubtree<'a> {
-    /// A whole tree with the tree hashes of all its subtrees, in the order of their roots.
-    pub fn of(tree: Subtree<'a>, hashes: &'a [Option<Hash>]) -> HashedSubtree<'a>
-        requires { hashes.now ≡ hashes_of tree.first tree.term }
-        ensures { result ≡ tree.entry }
+    /// The whole tree of this height, in which no node is cold.
+    pub fn of(cells: &'a Cells, height: u32) -> HashedSubtree<'a>
+        requires shape { length cells.now.nodes ≡ nodes_in height }
+        requires fits { 2 ^ height ≤ 2 ^ 31 }
+        requires hashed { cells.now.hashes ≡ hashes_of 0 (term_of height cells.now.nodes) }
+        ensures { result ≡ record { first = 0; term = term_of height cells.now.nodes } }
     {
-        HashedSubtree { tree, hashes }
+        let tree = Subtree::of(cells, height);
+        HashedSubtree { tree, cells }
     }
 
     /// The subtree alone.
@@ -92,7 +99,7 @@ impl<'a> HashedSubtree<'a> {
     pub(crate) fn hash(&self) -> Hash
         ensures { result ≡ tree_hash self.now.first self.now.term }
     {
-        match self.hashes[self.tree.root_place()] {
+        match self.cells.hash(self.tree.number() as usize) {
             Some(hash) => hash,
             None => unreachable!(),
         }
@@ -104,20 +111,17 @@ impl<'a> HashedSubtree<'a> {
     {
         match self.tree.parts() {
             Parts::Leaf(place) => HashedParts::Leaf(place),
-            Parts::Branch { left, root, right } => {
-                let middle = self.tree.root_place();
-                HashedParts::Branch {
-                    left: HashedSubtree {
-                        tree: left,
-                        hashes: &self.hashes[..middle],
-                    },
-                    root,
-                    right: HashedSubtree {
-                        tree: right,
-                        hashes: &self.hashes[middle + 1..],
-                    },
-                }
-            }
+            Parts::Branch { left, root, right } => HashedParts::Branch {
+                left: HashedSubtree {
+                    tree: left,
+                    cells: self.cells,
+                },
+                root,
+                right: HashedSubtree {
+                    tree: right,
+                    cells: self.cells,
+                },
+            },
         }
     }
 

@@ -9,28 +9,28 @@ ghost use Rattle.mls_tree_array.specs.Standing.{Stands};
 
 use crate::places::leaf_in;
 use mls_leaf::{LeafNode, Node};
-use mls_tree_slot::Slot;
+use mls_tree_cells::Cells;
 
 /// Leaf `i` of a tree of this height: None where it is blank or outside the tree.
-pub fn leaf(nodes: &[Slot], height: u32, i: u32) -> Option<&LeafNode>
-    requires { length nodes.now ≡ nodes_in height }
-    ensures { option_copied result ≡ leaf_of (term_of height nodes.now) i }
+pub fn leaf(cells: &Cells, height: u32, i: u32) -> Option<&LeafNode>
+    requires { length cells.now.nodes ≡ nodes_in height }
+    ensures { option_copied result ≡ leaf_of (term_of height cells.now.nodes) i }
 {
     let place = 2 * i as usize;
-    if place >= nodes.len() {
+    if place >= cells.len() {
         return None;
     }
-    leaf_in(&nodes[place])
+    leaf_in(cells.slot(place))
 }
 
 /// Node `x` of a tree of this height: None where it is blank or outside the tree.
-pub fn node(nodes: &[Slot], height: u32, x: u32) -> Option<&Node>
-    requires { Stands height nodes.now }
-    ensures { option_copied result ≡ node_at 0 (term_of height nodes.now) x }
+pub fn node(cells: &Cells, height: u32, x: u32) -> Option<&Node>
+    requires { Stands height cells.now.nodes }
+    ensures { option_copied result ≡ node_at 0 (term_of height cells.now.nodes) x }
 {
     let place = x as usize;
-    if place >= nodes.len() {
+    if place >= cells.len() {
         return None;
     }
-    nodes[place].node()
+    cells.slot(place).node()
 }

@@ -8,7 +8,7 @@ ghost use Rattle.mls_tree_model.specs.Keys.{members};
 ghost use Rattle.mls_tree_model.specs.Arrays.{term_of};
 ghost use Rattle.mls_tree_array.specs.EndOfMembers.{end_of_members};
 
-use crate::places::{leaf_in, middle_of};
+use crate::places::leaf_in;
 use crate::subtree::{Parts, Subtree};
 use mls_tree_slot::Slot;
 

@@ -1,26 +1,18 @@
 //! A path that is merged into a tree: the parents that it makes, and their parent hashes.
 
-ghost use Rattle.std.specs.Prelude.{◌≡◌, ℕ, ◌+◌, ◌-◌, ◌^◌, ◌<◌, ◌≤◌, length, take, drop, IfOk, OnOk};
-ghost use Rattle.std.specs.Vec.Iter.{into_iter_items};
-ghost use Rattle.mls_treemath.specs.Paths.{nodes_in};
+ghost use Rattle.std.specs.Prelude.{◌≡◌, ◌≤◌, IfOk, OnOk};
 ghost use Rattle.mls_tree_model.specs.Term.{height};
 ghost use Rattle.mls_tree_model.specs.Way.{path_length};
-ghost use Rattle.mls_tree_model.specs.Resolution.{is_reached};
-ghost use Rattle.mls_tree_model.specs.Arrays.{term_of, parent_cell};
-ghost use Rattle.mls_tree_model.specs.Laws.{HasMiddle};
-ghost use Rattle.mls_tree_array.specs.Standing.{Stands};
-ghost use Rattle.mls_tree_array.specs.Merging.{first_if, rest_if, hash_bytes};
-ghost use Rattle.mls_tree_array.specs.PathParents.{merged_parent, AreKeysBelow, IsHashBelow, IsPathHash, AddsParent, AddsParents, HasParents, HasHash, MergesPath};
+ghost use Rattle.mls_tree_array.specs.Merging.{hash_bytes};
+ghost use Rattle.mls_tree_array.specs.PathParents.{merged_parent, AreKeysBelow, IsHashBelow, IsPathHash, AddsParent, AddsParents, HasParents, HasHash};
 
 use crate::hashed_subtree::HashedSubtree;
-use crate::places::middle_of;
 use crate::resolutions::is_reached;
 use crate::subtree::Subtree;
 use mls_leaf::{Bytes, Items, ParentNode};
 use mls_tree_hash::{Hash, sibling_hash};
-use mls_tree_slot::{SharedLeaf, SharedParent, Slot};
+use mls_tree_slot::SharedParent;
 use std::alloc::{AllocError, Global};
-use std::vec;
 
 /// How many parents the filtered direct path of a leaf takes in (RFC 9420, 4.1.2). Takes no memory.
 pub fn path_length(tree: &Subtree<'_>, leaf: u32) -> u32
@@ -167,76 +159,4 @@ pub fn path_parents(
     let mut parents = Vec::with_capacity(alloc, keys.len())?;
     let hash = add_parents(alloc, tree, leaf, &mut keys, None, &mut parents)?;
     Ok(MergedPath { parents, hash })
-}
-
-/// The cell of the next parent where one is wanted, and a blank one elsewhere.
-fn next_cell(wanted: bool, parents: &mut vec::IntoIter<SharedParent>) -> Slot
-    ensures cell { result ≡ parent_cell (first_if wanted (into_iter_items parents.old)) }
-    ensures rest { into_iter_items parents.new ≡ rest_if wanted (into_iter_items parents.old) }
-{
-    if !wanted {
-        return Slot::blank();
-    }
-    match parents.next() {
-        Some(parent) => parent.into_slot(),
-        None => Slot::blank(),
-    }
-}
-
-/// Whether the left side of the root is reached.
-fn is_left_reached(nodes: &[Slot], height: u32, middle: usize) -> bool
-    requires above_leaf { 0 < height }
-    requires middle { HasMiddle height (length nodes.now) middle }
-    requires fits { 2 ^ height ≤ 2 ^ 31 }
-    ensures { (b : ℕ) → result ≡ is_reached b (term_of (height - 1) (take middle nodes.now)) }
-{
-    is_reached(&Subtree::of(&nodes[..middle], height - 1))
-}
-
-/// Whether the right side of the root is reached.
-fn is_right_reached(nodes: &[Slot], height: u32, middle: usize) -> bool
-    requires above_leaf { 0 < height }
-    requires middle { HasMiddle height (length nodes.now) middle }
-    requires fits { 2 ^ height ≤ 2 ^ 31 }
-    ensures { (b : ℕ) → result ≡ is_reached b (term_of (height - 1) (drop (middle + 1) nodes.now)) }
-{
-    is_reached(&Subtree::of(&nodes[middle + 1..], height - 1))
-}
-
-/// Merges a path: replaces leaf i and blanks the parents over it, except for those of the filtered path, which are
-/// replaced by the given ones (RFC 9420, 7.5). Takes no memory.
-pub fn merge(
-    nodes: &mut [Slot],
-    height: u32,
-    first: u32,
-    i: u32,
-    parents: &mut vec::IntoIter<SharedParent>,
-    leaf: SharedLeaf,
-)
-    requires stands { Stands height nodes.old }
-    requires fits { first + 2 ^ height ≤ 2 ^ 31 }
-    ensures { MergesPath height first i leaf (into_iter_items parents.old) nodes.old nodes.new }
-{
-    if height == 0 {
-        nodes[0] = leaf.into_slot();
-        return;
-    }
-    let middle = middle_of(nodes.len(), height);
-    let second = first + (middle / 2 + 1) as u32;
-    if i < second {
-        let wanted = is_right_reached(nodes, height, middle);
-        nodes[middle] = next_cell(wanted, parents);
-        merge(&mut nodes[..middle], height - 1, first, i, parents, leaf);
-    } else {
-        let wanted = is_left_reached(nodes, height, middle);
-        nodes[middle] = next_cell(wanted, parents);
-        merge(
-            &mut nodes[middle + 1..],
-            height - 1,
-            second,
-            i,
-            parents,
-            leaf,
-        );
-    }
 }

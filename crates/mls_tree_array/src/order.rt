@@ -5,6 +5,7 @@ ghost use Rattle.mls_tree_model.specs.Arrays.{without_last_blanks, has_last, may
 ghost use Rattle.mls_tree_array.specs.Additions.{PadsTo};
 
 use mls_leaf::Node;
+use mls_tree_cells::Cells;
 use mls_tree_slot::Slot;
 use std::alloc::{AllocError, Global};
 
@@ -81,14 +82,14 @@ pub fn pad_tree(nodes: &mut Vec<Slot>, height: u32) -> Result<(), AllocError>
     Ok(())
 }
 
-/// How many nodes there are up to the last one that isn't blank.
-fn sent_len(nodes: &[Slot]) -> usize
-    ensures within { result ≤ length nodes.now }
-    ensures cut { take result nodes.now ≡ without_last_blanks nodes.now }
+/// How many cells there are up to the last one that isn't blank.
+fn sent_len(cells: &Cells) -> usize
+    ensures within { result ≤ length cells.now.nodes }
+    ensures cut { take result cells.now.nodes ≡ without_last_blanks cells.now.nodes }
 {
-    let mut len = nodes.len();
+    let mut len = cells.len();
     while len > 0 {
-        if nodes[len - 1].is_taken() {
+        if cells.slot(len - 1).is_taken() {
             return len;
         }
         len -= 1;
@@ -97,8 +98,14 @@ fn sent_len(nodes: &[Slot]) -> usize
 }
 
 /// A copy of the nodes up to the last one that isn't blank, as they are sent.
-pub fn to_nodes(alloc: Global, nodes: &[Slot]) -> Result<Vec<Slot>, AllocError>
-    ensures { IfOk result (λ v. v.items ≡ without_last_blanks nodes.now) }
+pub fn to_nodes(alloc: Global, cells: &Cells) -> Result<Vec<Slot>, AllocError>
+    ensures { IfOk result (λ v. v.items ≡ without_last_blanks cells.now.nodes) }
 {
-    Vec::from_clones(alloc, &nodes[..sent_len(nodes)])
+    let count = sent_len(cells);
+    let mut nodes = Vec::with_capacity(alloc, count)?;
+    for x in 0..count {
+        let slot = cells.slot(x).clone()?;
+        nodes.push_reserved(slot);
+    }
+    Ok(nodes)
 }

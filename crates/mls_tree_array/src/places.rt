@@ -1,21 +1,27 @@
-//! The root among the nodes of a tree, and what stands in a place.
+//! Where the root and the sides of a tree stand, and what stands in a place.
 
-ghost use Rattle.std.specs.Prelude.{◌≡◌, ◌<◌, is_some};
+ghost use Rattle.std.specs.Prelude.{◌≡◌, suc, ◌+◌, ◌-◌, ◌*◌, ◌^◌, ◌<◌, ◌≤◌, is_some};
 ghost use Rattle.std.specs.Option.{option_copied};
-ghost use Rattle.mls_treemath.specs.Paths.{nodes_in};
 ghost use Rattle.mls_tree_model.specs.Arrays.{leaf_in, parent_in};
-ghost use Rattle.mls_tree_model.specs.Laws.{HasMiddle};
 
 use mls_leaf::{LeafNode, Node, ParentNode};
 use mls_tree_slot::Slot;
 
-/// Where the root stands among the nodes of a tree that is more than a leaf.
-pub(crate) fn middle_of(len: usize, height: u32) -> usize
-    requires above_leaf { 0 < height }
-    requires shape { len ≡ nodes_in height }
-    ensures { HasMiddle height len result }
+/// The number of the root of a tree of this height whose first leaf this is (RFC 9420, appendix C).
+pub(crate) fn root_of(height: u32, first: u32) -> u32
+    requires { first + 2 ^ height ≤ 2 ^ 31 }
+    ensures { suc result ≡ 2 * first + 2 ^ height }
 {
-    len / 2
+    2 * first + ((1 << height) - 1)
+}
+
+/// The first leaf of the right side of a tree of this height whose first leaf this is.
+pub(crate) fn second_first(height: u32, first: u32) -> u32
+    requires above_leaf { 0 < height }
+    requires fits { first + 2 ^ height ≤ 2 ^ 31 }
+    ensures { result ≡ first + 2 ^ (height - 1) }
+{
+    first + (1 << (height - 1))
 }
 
 /// The leaf in a place: None where it is blank or holds a parent.

@@ -1,7 +1,8 @@
 //! The size of a tree: halved where its right half has no member, or doubled.
 
-ghost use Rattle.std.specs.Prelude.{◌≡◌, ◌≤◌, ◌<◌, OnOk, OnErr};
+ghost use Rattle.std.specs.Prelude.{◌≡◌, suc, ◌≤◌, ◌<◌, ◌++◌, replicate, None, OnOk, OnErr};
 ghost use Rattle.mls_treemath.specs.Limits.{max_height};
+ghost use Rattle.mls_treemath.specs.Paths.{nodes_in};
 ghost use Rattle.mls_tree_model.specs.Term.{height};
 ghost use Rattle.mls_tree_model.specs.Edits.{grow, trim};
 ghost use Rattle.mls_tree_model.specs.Arrays.{term_of, in_order};
@@ -9,7 +10,7 @@ ghost use Rattle.mls_tree_array.specs.EndOfMembers.{end_of_members};
 ghost use Rattle.mls_tree_array.specs.Standing.{Stands};
 
 use crate::subtree::{Parts, Subtree};
-use mls_tree_slot::Slot;
+use mls_tree_cells::Cells;
 use std::alloc::AllocError;
 
 /// The height of what a trim keeps: the left half alone as long as the right half has no member (RFC 9420, 7.7), where
@@ -30,17 +31,16 @@ pub fn trimmed_height(tree: &Subtree<'_>, end: u32) -> u32
     }
 }
 
-/// Twice the leaves: a blank root, the tree on its left, blank nodes on its right (RFC 9420, 7.7).
-pub fn grow(nodes: &mut Vec<Slot>, height: u32) -> Result<(), AllocError>
-    requires stands { Stands height nodes.old.items }
+/// Twice the leaves: a blank root, the tree on its left, blank nodes on its right (RFC 9420, 7.7). The new nodes are
+/// cold. Without memory for them all stays.
+pub fn grow(cells: &mut Cells, height: u32) -> Result<(), AllocError>
+    requires stands { Stands height cells.old.nodes }
     requires low { height < max_height }
-    ensures ok { OnOk result (nodes.new.items ≡ in_order (grow (term_of height nodes.old.items))) }
-    ensures err { OnErr result (nodes.new.items ≡ nodes.old.items) }
+    ensures ok { OnOk result (cells.new.nodes ≡ in_order (grow (term_of height cells.old.nodes))) }
+    ensures cold { OnOk result (cells.new.hashes
+        ≡ cells.old.hashes ++ replicate (suc (nodes_in height)) None) }
+    ensures err { OnErr result (cells.new ≡ cells.old) }
 {
-    let count = nodes.len();
-    nodes.reserve(count + 1)?;
-    for _ in 0..count + 1 {
-        nodes.push_reserved(Slot::blank());
-    }
-    Ok(())
+    let count = cells.len() + 1;
+    cells.grow(count)
 }

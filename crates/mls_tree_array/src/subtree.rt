@@ -1,29 +1,31 @@
-//! Subtrees of a tree that is kept as an array of its nodes.
+//! Subtrees of a tree whose cells stand in node order.
 
 ghost use Rattle.std.specs.Prelude.{◌≡◌, ◌^◌, ◌≤◌, length};
 ghost use Rattle.mls_treemath.specs.Paths.{nodes_in};
 ghost use Rattle.mls_tree_model.specs.Term.{height};
 ghost use Rattle.mls_tree_model.specs.Arrays.{term_of};
-ghost use Rattle.mls_tree_array.specs.Subtrees.{end, root_place, root_number, subtree_at};
+ghost use Rattle.mls_tree_array.specs.Subtrees.{end, root_number, subtree_at};
 ghost use Rattle.mls_tree_array.specs.SubtreeParts.{HasParts, HasStep};
 
-use crate::places::middle_of;
+use crate::places::{root_of, second_first};
+use mls_tree_cells::Cells;
 use mls_tree_slot::Slot;
 use std::marker::Model;
 
-/// A subtree. It is a view of its nodes, which stand in order: first those of its left side, then its root, then those
-/// of its right side.
+/// A subtree. It is a view of its cells among those of the tree, which stand in order: first those of its left side,
+/// then its root, then those of its right side.
 #[derive(Drop)]
 pub struct Subtree<'a> {
-    nodes: &'a [Slot],
+    cells: &'a Cells,
     height: u32,
     first: u32,
 }
 
 impl<'a> Model for Subtree<'a> {
-    ghost use Rattle.std.specs.Prelude.{◌≡◌, ◌+◌, ◌^◌, ◌≤◌, length};
+    ghost use Rattle.std.specs.Prelude.{◌≡◌, ◌+◌, ◌*◌, ◌^◌, ◌≤◌, length};
     ghost use Rattle.mls_treemath.specs.Paths.{nodes_in};
     ghost use Rattle.mls_tree_model.specs.Arrays.{term_of};
+    ghost use Rattle.mls_tree_array.specs.Spans.{term_at};
     ghost use Rattle.mls_tree_array.specs.Subtrees as model;
     ghost use Rattle.mls_tree_array.specs.Codes.{coded_subtree};
 
@@ -31,9 +33,9 @@ impl<'a> Model for Subtree<'a> {
 
     ghost coded = { coded_subtree };
 
-    ghost view = { λ t. record { first = t.first; term = term_of t.height t.nodes.now } };
+    ghost view = { λ t. record { first = t.first; term = term_at t.height t.first t.cells.now.nodes } };
 
-    ghost invariant = { λ t. (length t.nodes.now ≡ nodes_in t.height) × (t.first + 2 ^ t.height ≤ 2 ^ 31) };
+    ghost invariant = { λ t. (2 * t.first + nodes_in t.height ≤ length t.cells.now.nodes) × (t.first + 2 ^ t.height ≤ 2 ^ 31) };
 }
 
 /// What a subtree consists of.
@@ -62,13 +64,13 @@ pub(crate) struct Step<'a> {
 
 impl<'a> Subtree<'a> {
     /// The whole tree of this height.
-    pub fn of(nodes: &'a [Slot], height: u32) -> Subtree<'a>
-        requires shape { length nodes.now ≡ nodes_in height }
+    pub fn of(cells: &'a Cells, height: u32) -> Subtree<'a>
+        requires shape { length cells.now.nodes ≡ nodes_in height }
         requires fits { 2 ^ height ≤ 2 ^ 31 }
-        ensures { result ≡ record { first = 0; term = term_of height nodes.now } }
+        ensures { result ≡ record { first = 0; term = term_of height cells.now.nodes } }
     {
         Subtree {
-            nodes,
+            cells,
             height,
             first: 0,
         }
@@ -79,7 +81,7 @@ impl<'a> Subtree<'a> {
         ensures { result ≡ self.now }
     {
         Subtree {
-            nodes: self.nodes,
+            cells: self.cells,
             height: self.height,
             first: self.first,
         }
@@ -100,50 +102,39 @@ impl<'a> Subtree<'a> {
     }
 
     /// One past the number of its last leaf.
-    #[tactic(auto, using(mls_treemath::proofs::Sizes::nodes_in_pos))]
     pub(crate) fn end(&self) -> u32
         ensures { result ≡ end self.now }
     {
-        self.first + (self.nodes.len() / 2 + 1) as u32
-    }
-
-    /// The place of its root among its nodes.
-    #[tactic(auto, using(mls_treemath::proofs::Sizes::nodes_in_pos))]
-    pub(crate) fn root_place(&self) -> usize
-        ensures { result ≡ root_place self.now.term }
-    {
-        self.nodes.len() / 2
+        self.first + (1 << self.height)
     }
 
     /// The number of its root.
-    #[tactic(auto, using(mls_treemath::proofs::Sizes::nodes_in_pos))]
     pub(crate) fn number(&self) -> u32
         ensures { result ≡ root_number self.now.first self.now.term }
     {
-        2 * self.first + (self.nodes.len() / 2) as u32
+        root_of(self.height, self.first)
     }
 
     /// Its root and its sides.
-    #[tactic(auto, using(mls_treemath::proofs::Sizes::nodes_in_pos))]
     pub(crate) fn parts(&self) -> Parts<'a>
         ensures { HasParts self.now result }
     {
+        let root = self.cells.slot(root_of(self.height, self.first) as usize);
         if self.height == 0 {
-            return Parts::Leaf(&self.nodes[0]);
+            return Parts::Leaf(root);
         }
-        let middle = middle_of(self.nodes.len(), self.height);
         let height = self.height - 1;
         Parts::Branch {
             left: Subtree {
-                nodes: &self.nodes[..middle],
+                cells: self.cells,
                 height,
                 first: self.first,
             },
-            root: &self.nodes[middle],
+            root,
             right: Subtree {
-                nodes: &self.nodes[middle + 1..],
+                cells: self.cells,
                 height,
-                first: self.first + (middle / 2 + 1) as u32,
+                first: second_first(self.height, self.first),
             },
         }
     }

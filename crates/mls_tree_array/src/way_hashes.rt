@@ -1,16 +1,18 @@
 //! The hashes that a merged path makes on the way to its leaf: made before the merge, and kept after it.
 
-ghost use Rattle.std.specs.Prelude.{◌≡◌, suc, ◌+◌, ◌^◌, ◌≤◌, length, OnOk};
+ghost use Rattle.std.specs.Prelude.{◌≡◌, suc, ◌+◌, ◌*◌, ◌^◌, ◌≤◌, length, OnOk};
 ghost use Rattle.std.specs.Option.{option_copied};
+ghost use Rattle.mls_treemath.specs.Limits.{max_height};
 ghost use Rattle.mls_treemath.specs.Paths.{nodes_in};
 ghost use Rattle.mls_tree_model.specs.Term.{height};
 ghost use Rattle.mls_tree_hash.specs.Counter.{counted};
 ghost use Rattle.mls_tree_array.specs.Merging.{first_if, rest_if};
-ghost use Rattle.mls_tree_array.specs.WayHashes.{PutsHashes, AddsWay};
+ghost use Rattle.mls_tree_array.specs.WayHashes.{AddsWay, IsColdOnWay, KeepsOnWay};
 
 use crate::hashed_subtree::{HashedParts, HashedSubtree};
-use crate::places::middle_of;
+use crate::places::{root_of, second_first};
 use mls_leaf::{LeafNode, ParentNode};
+use mls_tree_cells::Cells;
 use mls_tree_hash::{Hash, branch_hash, leaf_hash};
 use mls_tree_slot::SharedParent;
 use std::alloc::AllocError;
@@ -65,32 +67,38 @@ pub fn merged_hashes(
     }
 }
 
-/// Keeps these hashes of leaf i and of the nodes over it, the lowest first; visits one node a level. Takes no memory.
-#[tactic(auto, using(mls_treemath::proofs::Sizes::nodes_in_pos))]
-pub(crate) fn put_hashes(
-    kept: &mut [Option<Hash>],
-    height: u32,
-    first: u32,
-    i: u32,
-    hashes: &[Hash],
-)
-    requires shape { length kept.old ≡ nodes_in height }
+/// Keeps these hashes of leaf i and of the nodes over it, the lowest first, in the subtree of this height whose first
+/// leaf this is.
+fn keep_hashes(cells: &mut Cells, height: u32, first: u32, i: u32, hashes: &[Hash])
+    requires shape { 2 * first + nodes_in height ≤ length cells.old.nodes }
+    requires cold { IsColdOnWay height first i cells.old.hashes }
     requires long { length hashes.now ≡ suc height }
     requires fits { first + 2 ^ height ≤ 2 ^ 31 }
-    ensures { PutsHashes height first i hashes.now kept.old kept.new }
+    ensures { KeepsOnWay height first i hashes.now cells.old cells.new }
 {
-    let root = hashes[height as usize];
+    cells.keep_hash(root_of(height, first) as usize, hashes[height as usize]);
     if height == 0 {
-        kept[0] = Some(root);
         return;
     }
     let below = &hashes[..height as usize];
-    let middle = middle_of(kept.len(), height);
-    kept[middle] = Some(root);
-    let second = first + (middle / 2 + 1) as u32;
+    let second = second_first(height, first);
     if i < second {
-        put_hashes(&mut kept[..middle], height - 1, first, i, below);
+        keep_hashes(cells, height - 1, first, i, below);
     } else {
-        put_hashes(&mut kept[middle + 1..], height - 1, second, i, below);
+        keep_hashes(cells, height - 1, second, i, below);
     }
+}
+
+/// Keeps the hashes of leaf i and of the nodes over it that a merge of leaf i was found to make, the lowest first, where
+/// these nodes are cold, and counts them in `done`; visits one node a level. Takes no memory.
+pub fn put_hashes(cells: &mut Cells, height: u32, i: u32, hashes: &[Hash], done: &mut u64)
+    requires shape { length cells.old.nodes ≡ nodes_in height }
+    requires cold { IsColdOnWay height 0 i cells.old.hashes }
+    requires long { length hashes.now ≡ suc height }
+    requires low { height ≤ max_height }
+    ensures kept { KeepsOnWay height 0 i hashes.now cells.old cells.new }
+    ensures counted { done.new ≡ counted done.old (length hashes.now) }
+{
+    keep_hashes(cells, height, 0, i, hashes);
+    *done = done.saturating_add(hashes.len() as u64);
 }

@@ -1,16 +1,16 @@
 -- Laws of lists in blocks: an edit of one block is one of the whole list.
-use Rattle.std.proofs.Common.{◌≡◌, ℕ, zero, suc, ◌+◌, ◌-◌, ◌<◌, ◌≤◌, List, [], ◌∷◌, ◌++◌, map, length, take, drop, get_or, set, refl, sym, ◌∙◌, ap, subst, arith, append_assoc, append-nil, add-one}
-use Rattle.std.specs.Global.{Vec}
+use Rattle.std.proofs.Common.{◌≡◌, ℕ, zero, suc, ◌+◌, ◌-◌, ◌<◌, ◌≤◌, true, false, List, [], ◌∷◌, ◌++◌, map, length, take, drop, get_or, set, refl, sym, ◌∙◌, ap, subst, arith, append_assoc, append-nil, add-one, inl, inr}
 use Rattle.std.specs.List.{All, concat, insert, remove}
-use Rattle.std.specs.Vec.{vec_len, vec_capacity}
+use Rattle.std.proofs.lemmas.Bool.{cases_Bool, true≢false}
 use Rattle.std.proofs.lemmas.List.{length-append, get_or_append_left, get_or-append-add, map-append, map-set}
 use Rattle.std.proofs.lemmas.Grind.{get_or-set_at}
 use Rattle.std.proofs.lemmas.List.{length-drop, length-set, length-take-le, nil_from_length, take-append-drop}
-use Rattle.std.proofs.lemmas.List.Folds.{concat-append}
+use Rattle.std.proofs.lemmas.List.Folds.{concat-append, list_any_at, list_any_none}
 use Rattle.std.proofs.lemmas.List.Edits.{insert-append_left, insert-append_right, length-insert, remove-append_left, remove-append_right}
 use Rattle.std.proofs.lemmas.List.Elements.{All-set, All-get_or}
 use Rattle.mls_tree_index.specs.declared.blocks.Spot.{Spot}
-use Rattle.mls_tree_index.specs.Blocks.{AreBlocks, IsBlock, IsOpenAt, PushesBlock, blocks_of, place_in, place_of, split_at}
+use Rattle.mls_tree_index.specs.Block.{BlockNumbers}
+use Rattle.mls_tree_index.specs.Blocks.{AreBlocks, IsOpenAt, IsOwnAt, PushesBlock, are_shared, blocks_of, place_in, place_of, split_at}
 
 -- ---- where a block stands
 
@@ -151,23 +151,111 @@ map_remove f [] (suc i) = refl
 map_remove f (x ∷ xs) zero = refl
 map_remove f (x ∷ xs) (suc i) = ap (λ zs. f x ∷ zs) (map_remove f xs i)
 
-pub block_at : (vs : List (Vec ℕ)) (b : ℕ) (d : Vec ℕ) → b < length vs → get_or (blocks_of vs) b [] ≡ (get_or vs b d).items
+-- ---- the numbers of blocks
+
+pub block_at : (vs : List BlockNumbers) (b : ℕ) (d : BlockNumbers) → b < length vs → get_or (blocks_of vs) b [] ≡ (get_or vs b d).numbers
 block_at [] b d lt = absurd (omega arith)
 block_at (v ∷ vs) zero d lt = refl
 block_at (v ∷ vs) (suc b) d lt = block_at vs b d (omega arith)
 
-pub count_of : (vs : List (Vec ℕ)) → length (blocks_of vs) ≡ length vs
+pub count_of : (vs : List BlockNumbers) → length (blocks_of vs) ≡ length vs
 count_of [] = refl
 count_of (v ∷ vs) = ap suc (count_of vs)
 
-pub read_at : (vs : List (Vec ℕ)) (b : ℕ) (v : Vec ℕ) → b < length vs → v ≡ get_or vs b v → v.items ≡ get_or (blocks_of vs) b []
-read_at vs b v lt is = ap (λ (w : Vec ℕ). w.items) is ∙ sym (block_at vs b v lt)
+pub read_at : (vs : List BlockNumbers) (b : ℕ) (v : BlockNumbers) → b < length vs → v ≡ get_or vs b v → v.numbers ≡ get_or (blocks_of vs) b []
+read_at vs b v lt is = ap (λ (w : BlockNumbers). w.numbers) is ∙ sym (block_at vs b v lt)
 
-pub set_at : (vs : List (Vec ℕ)) (b : ℕ) (v : Vec ℕ) → blocks_of (set vs b v) ≡ set (blocks_of vs) b v.items
-set_at vs b v = map-set (λ (w : Vec ℕ). w.items) vs b v
+pub set_at : (vs : List BlockNumbers) (b : ℕ) (v : BlockNumbers) → blocks_of (set vs b v) ≡ set (blocks_of vs) b v.numbers
+set_at vs b v = map-set (λ (w : BlockNumbers). w.numbers) vs b v
 
-pub insert_at : (vs : List (Vec ℕ)) (b : ℕ) (v : Vec ℕ) → blocks_of (insert vs b v) ≡ insert (blocks_of vs) b v.items
-insert_at vs b v = map_insert (λ (w : Vec ℕ). w.items) vs b v
+-- a block takes the place of one with the same numbers
+pub blocks_stay : (vs : List BlockNumbers) (b : ℕ) (v w : BlockNumbers) → b < length vs → v ≡ get_or vs b v → w.numbers ≡ v.numbers → blocks_of (set vs b w) ≡ blocks_of vs
+blocks_stay [] b v w lt is same = absurd (omega arith)
+blocks_stay (x ∷ vs) zero v w lt is same = ap (λ ns. ns ∷ blocks_of vs) (same ∙ ap (λ (u : BlockNumbers). u.numbers) is)
+blocks_stay (x ∷ vs) (suc b) v w lt is same = ap (λ bs. x.numbers ∷ bs) (blocks_stay vs b v w (omega arith) is same)
+
+-- ---- blocks that copies may share
+
+own_each : (vs : List BlockNumbers) → are_shared vs ≡ false → All (λ v. v.shared ≡ false) vs
+own_each vs none k d lt = elim (cases_Bool ((get_or vs k d).shared)) [
+  | inl on ↦ absurd (true≢false (sym (list_any_at (λ (v : BlockNumbers). v.shared) vs k d lt on) ∙ none))
+  | inr out ↦ out
+]
+
+each_own : (vs : List BlockNumbers) → All (λ v. v.shared ≡ false) vs → are_shared vs ≡ false
+each_own vs all = list_any_none (λ (v : BlockNumbers). v.shared) vs all
+
+pub own_set : (vs : List BlockNumbers) (b : ℕ) (v : BlockNumbers) → v.shared ≡ false → are_shared vs ≡ false → are_shared (set vs b v) ≡ false
+own_set vs b v own none =
+    each_own (set vs b v) (All-set (λ (w : BlockNumbers). w.shared ≡ false) vs b v own (own_each vs none))
+
+pub own_insert : (vs : List BlockNumbers) (b : ℕ) (v : BlockNumbers) → v.shared ≡ false → are_shared vs ≡ false → are_shared (insert vs b v) ≡ false
+own_insert vs b v own none =
+    each_own (insert vs b v) (all_insert (λ (w : BlockNumbers). w.shared ≡ false) vs b v own (own_each vs none))
+
+pub own_remove : (vs : List BlockNumbers) (b : ℕ) → are_shared vs ≡ false → are_shared (remove vs b) ≡ false
+own_remove vs b none =
+    each_own (remove vs b) (all_remove (λ (w : BlockNumbers). w.shared ≡ false) vs b (own_each vs none))
+
+pub own_pushed : (vs ws : List BlockNumbers) (v : BlockNumbers) → ws ≡ vs ++ v ∷ [] → v.shared ≡ false → are_shared vs ≡ false → are_shared ws ≡ false
+own_pushed vs ws v is own none =
+    ap are_shared is
+    ∙ each_own (vs ++ v ∷ []) (all_pushed (λ (w : BlockNumbers). w.shared ≡ false) vs v own (own_each vs none))
+
+pub shared_at : (vs : List BlockNumbers) (b : ℕ) (v : BlockNumbers) → b < length vs → v ≡ get_or vs b v → v.shared ≡ true → are_shared vs ≡ true
+shared_at vs b v lt is on =
+    list_any_at (λ (w : BlockNumbers). w.shared) vs b v lt (sym (ap (λ (w : BlockNumbers). w.shared) is) ∙ on)
+
+share_at : (vs : List BlockNumbers) (b : ℕ) (v : BlockNumbers) → b < length vs → get_or (map (λ w. w.shared) vs) b true ≡ (get_or vs b v).shared
+share_at [] b v lt = absurd (omega arith)
+share_at (x ∷ vs) zero v lt = refl
+share_at (x ∷ vs) (suc b) v lt = share_at vs b v (omega arith)
+
+pub own_at : (vs : List BlockNumbers) (b : ℕ) (v : BlockNumbers) → b < length vs → v ≡ get_or vs b v → v.shared ≡ false → IsOwnAt vs b
+own_at vs b v lt is own = share_at vs b v lt ∙ sym (ap (λ (w : BlockNumbers). w.shared) is) ∙ own
+
+pub at_own : (vs : List BlockNumbers) (b : ℕ) (v : BlockNumbers) → b < length vs → v ≡ get_or vs b v → IsOwnAt vs b → v.shared ≡ false
+at_own vs b v lt is own = ap (λ (w : BlockNumbers). w.shared) is ∙ sym (share_at vs b v lt) ∙ own
+
+pub own_within : (vs : List BlockNumbers) (b : ℕ) → IsOwnAt vs b → b < length vs
+own_within [] b own = absurd (true≢false own)
+own_within (x ∷ vs) zero own = omega arith
+own_within (x ∷ vs) (suc b) own = let rest = own_within vs b own in omega arith
+
+pub own_here : (vs : List BlockNumbers) (b : ℕ) (v : BlockNumbers) → b < length vs → v.shared ≡ false → IsOwnAt (set vs b v) b
+own_here [] b v lt own = absurd (omega arith)
+own_here (x ∷ vs) zero v lt own = own
+own_here (x ∷ vs) (suc b) v lt own = own_here vs b v (omega arith) own
+
+-- one that is one's own stays so where another takes its place, or this one
+pub own_stays : (vs : List BlockNumbers) (b k : ℕ) (v : BlockNumbers) → v.shared ≡ false → IsOwnAt vs k → IsOwnAt (set vs b v) k
+own_stays [] b k v own is = is
+own_stays (x ∷ vs) zero zero v own is = own
+own_stays (x ∷ vs) zero (suc k) v own is = is
+own_stays (x ∷ vs) (suc b) zero v own is = is
+own_stays (x ∷ vs) (suc b) (suc k) v own is = own_stays vs b k v own is
+
+pub own_lower : (vs : List BlockNumbers) (b : ℕ) (lower upper : BlockNumbers) → b < length vs → lower.shared ≡ false → IsOwnAt (insert (set vs b lower) (suc b) upper) b
+own_lower [] b lower upper lt own = absurd (omega arith)
+own_lower (x ∷ vs) zero lower upper lt own = own
+own_lower (x ∷ vs) (suc b) lower upper lt own = own_lower vs b lower upper (omega arith) own
+
+pub own_upper : (vs : List BlockNumbers) (b : ℕ) (lower upper : BlockNumbers) → b < length vs → upper.shared ≡ false → IsOwnAt (insert (set vs b lower) (suc b) upper) (suc b)
+own_upper [] b lower upper lt own = absurd (omega arith)
+own_upper (x ∷ vs) zero lower upper lt own = own
+own_upper (x ∷ vs) (suc b) lower upper lt own = own_upper vs b lower upper (omega arith) own
+
+-- one that is one's own stays so where a block takes another's place, and is its own if that was
+pub own_stays_if : (vs : List BlockNumbers) (b k : ℕ) (v w : BlockNumbers) → b < length vs → v ≡ get_or vs b v → (v.shared ≡ false → w.shared ≡ false) → IsOwnAt vs k → IsOwnAt (set vs b w) k
+own_stays_if [] b k v w lt at stays is = is
+own_stays_if (x ∷ vs) zero zero v w lt at stays is = stays (ap (λ (u : BlockNumbers). u.shared) at ∙ is)
+own_stays_if (x ∷ vs) zero (suc k) v w lt at stays is = is
+own_stays_if (x ∷ vs) (suc b) zero v w lt at stays is = is
+own_stays_if (x ∷ vs) (suc b) (suc k) v w lt at stays is = own_stays_if vs b k v w (omega arith) at stays is
+
+-- all are one's own where each is
+pub own_all : (vs : List BlockNumbers) (n : ℕ) → length vs ≤ n → ((k : ℕ) → k < n → IsOwnAt vs k) → are_shared vs ≡ false
+own_all vs n all own = each_own vs (λ k d lt. sym (share_at vs k d lt) ∙ own k (omega arith))
 
 -- ---- blocks that have a number
 
@@ -198,36 +286,13 @@ blocks_full [] b are some lt = absurd are
 blocks_full (x ∷ bs) zero are some lt = absurd (omega arith)
 blocks_full (x ∷ bs) (suc b) are some lt = All-get_or (λ w. 0 < length w) bs b [] (omega arith) are
 
--- a block that takes another's place has at most so many numbers and memory for them
-pub each_set : (vs : List (Vec ℕ)) (b : ℕ) (v w : Vec ℕ) → b < length vs → w ≡ get_or vs b w → vec_len v ≤ 512 → vec_capacity v ≡ vec_capacity w → All IsBlock vs → All IsBlock (set vs b v)
-each_set vs b v w lt is few same all =
-    let wide = (all b w lt).capacity in
-    let own = ap vec_capacity is in
-    All-set IsBlock vs b v (record { few = few; capacity = omega arith }) all
-
-pub few_at : (vs : List (Vec ℕ)) (b : ℕ) (v : Vec ℕ) → b < length vs → v ≡ get_or vs b v → All IsBlock vs → vec_len v ≤ 512
-few_at vs b v lt is all =
-    let few = (all b v lt).few in
-    let own = ap vec_len is in
-    omega arith
-
--- a block is full
-pub full_at : (vs : List (Vec ℕ)) (b : ℕ) (v : Vec ℕ) → b < length (blocks_of vs) → v ≡ get_or vs b v → All IsBlock vs → 512 ≤ vec_len v → length (get_or (blocks_of vs) b []) ≡ 512
-full_at vs b v low is all ge =
-    let count = count_of vs in
-    let lt : b < length vs = omega arith in
-    let few = few_at vs b v lt is all in
-    let items = ap length (read_at vs b v lt is) in
-    let ok = v.ok.0 in
-    omega arith
-
 -- ---- a block that is added at the end
 
-pub pushed_block : (vs ws : List (Vec ℕ)) (v : Vec ℕ) (ns : List ℕ) → ws ≡ vs ++ v ∷ [] → v.items ≡ ns → PushesBlock ns vs ws
-pushed_block vs ws v ns is own = ap blocks_of is ∙ map-append (λ (w : Vec ℕ). w.items) vs (v ∷ []) ∙ ap (λ ms. blocks_of vs ++ ms ∷ []) own
-
-pub pushed_each : (vs ws : List (Vec ℕ)) (v : Vec ℕ) → ws ≡ vs ++ v ∷ [] → IsBlock v → All IsBlock vs → All IsBlock ws
-pushed_each vs ws v is own all = subst (All IsBlock) (sym is) (all_pushed IsBlock vs v own all)
+pub pushed_block : (vs ws : List BlockNumbers) (v : BlockNumbers) (ns : List ℕ) → ws ≡ vs ++ v ∷ [] → v.numbers ≡ ns → PushesBlock ns vs ws
+pushed_block vs ws v ns is own =
+    ap blocks_of is
+    ∙ map-append (λ (w : BlockNumbers). w.numbers) vs (v ∷ [])
+    ∙ ap (λ ms. blocks_of vs ++ ms ∷ []) own
 
 pub pushed_numbers : (bs cs : List (List ℕ)) (ns : List ℕ) → cs ≡ bs ++ ns ∷ [] → concat cs ≡ concat bs ++ ns
 pushed_numbers bs cs ns is = ap concat is ∙ concat-append bs (ns ∷ []) ∙ ap (λ ms. concat bs ++ ms) (append-nil ns)
@@ -245,18 +310,19 @@ first_block cs ns is = subst AreBlocks (sym is) (λ k d lt. absurd (omega arith)
 
 -- ---- a block that is left with no number
 
-module _ (vs : List (Vec ℕ)) (b : ℕ) (v : Vec ℕ) where
-  pub empty_goes : b < length vs → length v.items ≡ 0 → concat (blocks_of (remove (set vs b v) b)) ≡ concat (blocks_of (set vs b v))
+module _ (vs : List BlockNumbers) (b : ℕ) (v : BlockNumbers) where
+  pub empty_goes : b < length vs → length v.numbers ≡ 0 → concat (blocks_of (remove (set vs b v) b)) ≡ concat (blocks_of (set vs b v))
   empty_goes lt none =
       let same = length-set vs b v in
       let count = count_of (set vs b v) in
-      let here = block_at (set vs b v) b v (omega arith) ∙ ap (λ (w : Vec ℕ). w.items) (get_or-set_at vs b b v v refl lt) ∙ nil_from_length v.items none in
-      ap concat (map_remove (λ (w : Vec ℕ). w.items) (set vs b v) b) ∙ without_empty (blocks_of (set vs b v)) b (omega arith) here
+      let here = block_at (set vs b v) b v (omega arith) ∙ ap (λ (w : BlockNumbers). w.numbers) (get_or-set_at vs b b v v refl lt) ∙ nil_from_length v.numbers none in
+      ap concat (map_remove (λ (w : BlockNumbers). w.numbers) (set vs b v) b)
+      ∙ without_empty (blocks_of (set vs b v)) b (omega arith) here
 
   pub blocks_left : 1 < length vs → AreBlocks (blocks_of vs) → AreBlocks (blocks_of (remove (set vs b v) b))
   blocks_left more are =
       let count = count_of vs in
-      subst AreBlocks (sym (map_remove (λ (w : Vec ℕ). w.items) (set vs b v) b ∙ ap (λ bs. remove bs b) (set_at vs b v) ∙ remove_set (blocks_of vs) b v.items))
+      subst AreBlocks (sym (map_remove (λ (w : BlockNumbers). w.numbers) (set vs b v) b ∙ ap (λ bs. remove bs b) (set_at vs b v) ∙ remove_set (blocks_of vs) b v.numbers))
       (blocks_remove (blocks_of vs) b (omega arith) are)
 
 -- ---- a block that is split in two
@@ -320,6 +386,12 @@ module _ (bs : List (List ℕ)) (b : ℕ) (lt : b < length bs) (full : length (g
       let size : length (get_or (split_at bs b) s.block []) ≡ 256 = ap (λ n. length (get_or (split_at bs b) n [])) at ∙ ap length (upper_part (take 256 (get_or bs b [])) (drop 256 (get_or bs b [])) bs b lt) ∙ upper_size in
       record { block = omega arith; offset = omega arith; few = omega arith }
 
+  pub place_here : (s : Spot) → s.block ≡ b → place_of (split_at bs b) s ≡ place_of bs s
+  place_here s at =
+      ap (λ n. place_in (split_at bs b) n s.offset) at
+      ∙ lower_place (take 256 (get_or bs b [])) (drop 256 (get_or bs b [])) bs b s.offset lt
+      ∙ ap (λ n. place_in bs n s.offset) (sym at)
+
   pub place_there : (s : Spot) → s.block ≡ suc b → place_of (split_at bs b) s ≡ place_in bs b (s.offset + 256)
   place_there s at =
       let count = parts_count (take 256 (get_or bs b [])) (drop 256 (get_or bs b [])) bs b lt in
@@ -328,14 +400,19 @@ module _ (bs : List (List ℕ)) (b : ℕ) (lt : b < length bs) (full : length (g
       let before = lower_place (take 256 (get_or bs b [])) (drop 256 (get_or bs b [])) bs b (length (get_or (split_at bs b) b [])) lt in
       ap (λ n. place_in (split_at bs b) n s.offset) at ∙ next ∙ omega arith
 
--- the same of blocks with memory
-module _ (vs : List (Vec ℕ)) (b : ℕ) (lower upper : Vec ℕ) where
-  pub parts_of : lower.items ≡ take 256 (get_or (blocks_of vs) b []) → upper.items ≡ drop 256 (get_or (blocks_of vs) b []) → blocks_of (insert (set vs b lower) (suc b) upper) ≡ split_at (blocks_of vs) b
-  parts_of low high =
-      insert_at (set vs b lower) (suc b) upper
-      ∙ ap (λ bs. insert bs (suc b) upper.items) (set_at vs b lower)
-      ∙ ap (λ ns. insert (set (blocks_of vs) b ns) (suc b) upper.items) low
-      ∙ ap (insert (set (blocks_of vs) b (take 256 (get_or (blocks_of vs) b []))) (suc b)) high
+-- the same of blocks that copies may share
+pub parts_of : (vs : List BlockNumbers) (b : ℕ) (lower upper : BlockNumbers) → lower.numbers ≡ take 256 (get_or (blocks_of vs) b []) → upper.numbers ≡ drop 256 (get_or (blocks_of vs) b []) → blocks_of (insert (set vs b lower) (suc b) upper) ≡ split_at (blocks_of vs) b
+parts_of vs b lower upper low high =
+    map_insert (λ (w : BlockNumbers). w.numbers) (set vs b lower) (suc b) upper
+    ∙ ap (λ bs. insert bs (suc b) upper.numbers) (set_at vs b lower)
+    ∙ ap (λ ns. insert (set (blocks_of vs) b ns) (suc b) upper.numbers) low
+    ∙ ap (insert (set (blocks_of vs) b (take 256 (get_or (blocks_of vs) b []))) (suc b)) high
 
-  pub parts_each : IsBlock lower → IsBlock upper → All IsBlock vs → All IsBlock (insert (set vs b lower) (suc b) upper)
-  parts_each one other all = all_insert IsBlock (set vs b lower) (suc b) upper other (All-set IsBlock vs b lower one all)
+own_of : (vs : List BlockNumbers) (k : ℕ) → are_shared vs ≡ false → k < length vs → IsOwnAt vs k
+own_of vs k none lt =
+    let d : BlockNumbers = record { numbers = []; shared = false } in
+    share_at vs k d lt ∙ own_each vs none k d lt
+
+-- none is shared where none was and each that was one's own still is
+pub own_kept : (vs ws : List BlockNumbers) → length ws ≡ length vs → ((k : ℕ) → IsOwnAt vs k → IsOwnAt ws k) → are_shared vs ≡ false → are_shared ws ≡ false
+own_kept vs ws long own none = own_all ws (length vs) (omega arith) (λ k low. own k (own_of vs k none low))

@@ -1,10 +1,10 @@
 -- Laws of indexes.
-use Rattle.std.proofs.Common.{◌≡◌, ℕ, ◌-◌, List, ◌++◌, length, get_or, replicate, Option, None, refl, sym, ◌∙◌, ap, arith, inl, inr}
-use Rattle.std.proofs.lemmas.Bool.{cases_lt}
+use Rattle.std.proofs.Common.{◌≡◌, ℕ, suc, ◌-◌, ◌≤◌, false, List, ◌++◌, length, get_or, replicate, Option, None, refl, sym, ◌∙◌, ap, arith, inl, inr}
+use Rattle.std.proofs.lemmas.Bool.{cases_Bool, cases_lt, true≢false}
 use Rattle.std.proofs.lemmas.List.{get_or_past, get_or_append_left, get_or-append_right, get_or-replicate, length-replicate}
 use Rattle.mls_leaf.specs.declared.node.Node.{Node}
 use Rattle.mls_tree_index.specs.Keys.{key_of, key_in, repeats_in}
-use Rattle.mls_tree_index.specs.Indexes.{Listing, Indexes}
+use Rattle.mls_tree_index.specs.Indexes.{CanLeave, Listing, Indexes}
 use Rattle.mls_tree_index.proofs.EntryLaws.{entries_alike}
 use Rattle.mls_tree_index.proofs.CountLaws.{none_blank, same_gathered}
 
@@ -30,3 +30,10 @@ indexes_padded t c n = indexes_alike t c (c ++ replicate n None) (λ x. ap (key_
       | inl lt ↦ get_or_append_left c (replicate n None) None x lt
       | inr ge ↦ get_or-append_right c (replicate n None) (length c) x None refl ge ∙ blank (x - length c) ∙ sym (get_or_past c x None ge)
     ]
+
+-- where one of some cells left, there is room for the others
+pub can_leave : (n : ℕ) (s t : Listing) → CanLeave (suc n) s → (s.shared ≡ false → t.shared ≡ false) → s.room ≤ suc t.room → CanLeave n t
+can_leave n s t can own room on = elim (cases_Bool s.shared) [
+  | inl was ↦ let enough = can was in omega arith
+  | inr none ↦ absurd (true≢false (sym on ∙ own none))
+]

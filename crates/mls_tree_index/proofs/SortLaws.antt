@@ -234,7 +234,7 @@ module _ (kind : KeyKind) (cells : List (Option Node)) (es : List Entry) (are : 
 
   -- a listing with no room
   abbrev pub listing : List ℕ → ℕ → Listing
-  listing ns r = record { kind = kind; numbers = ns; repeats = r; room = 0 }
+  listing ns r = record { kind = kind; numbers = ns; repeats = r; room = 0; shared = false }
 
   pub built_none : (s : Listing) → s.kind ≡ kind → s.numbers ≡ [] → s.repeats ≡ 0 → Indexes (built 0) s
   built_none s same numbers repeats = none_indexed kind (built 0) s same numbers repeats all_blank

@@ -1,47 +1,47 @@
 -- Lists of numbers in blocks, seen as one list.
-use Rattle.std.specs.Prelude.{◌≡◌, ℕ, suc, ◌+◌, ◌<◌, ◌≤◌, List, [], ◌∷◌, ◌++◌, length, take, drop, map, get_or, set, Option, Some, None}
+use Rattle.std.specs.Prelude.{◌≡◌, ℕ, suc, ◌+◌, ◌-◌, ◌*◌, ◌<◌, ◌≤◌, min, Bool, true, false, cond, List, [], ◌∷◌, ◌++◌, length, take, drop, map, get_or, set, Option, Some, None}
 use Rattle.std.specs.Global.{Vec}
-use Rattle.std.specs.List.{All, concat, insert, remove}
+use Rattle.std.specs.List.{All, concat, insert, list_any, remove}
 use Rattle.std.specs.Vec.{vec_len, vec_capacity}
+use Rattle.mls_tree_index.specs.Block.{BlockNumbers, IsSpare, block_size, half_size}
 use Rattle.mls_tree_index.specs.declared.blocks.Spot.{Spot}
 
--- how many numbers a block has at most
-abbrev pub block_size : ℕ
-block_size = 512
-
--- how many numbers each half of a full block has
-abbrev pub half_size : ℕ
-half_size = 256
-
--- the blocks, and for how many more numbers there is room
+-- the blocks, how many spare ones their edits may take, and whether copies may share one of the blocks
 pub record BlockList : Type 0 where
   pub blocks : List (List ℕ)
   pub room : ℕ
+  pub shared : Bool
 
 -- the numbers of each block
-abbrev pub blocks_of : List (Vec ℕ) → List (List ℕ)
-blocks_of vs = map (λ v. v.items) vs
+abbrev pub blocks_of : List BlockNumbers → List (List ℕ)
+blocks_of vs = map (λ v. v.numbers) vs
+
+-- whether copies may share one of some blocks
+abbrev pub are_shared : List BlockNumbers → Bool
+are_shared vs = list_any (λ v. v.shared) vs
+
+-- how many more numbers fit into each of some blocks
+unfoldable pub least_free : List (List ℕ) → ℕ
+least_free [] = block_size
+least_free (x ∷ bs) = min (block_size - length x) (least_free bs)
+
+-- how many spare blocks edits may take: those that there are or, where no block is shared, so many that numbers may enter
+-- the free places of a block before they take them, at two for a number
+abbrev pub room_of : Bool → List (List ℕ) → ℕ → ℕ
+room_of shared bs spares = cond shared spares (2 * (spares + least_free bs))
+
+-- a block of a list is one's own
+abbrev pub IsOwnAt : List BlockNumbers → ℕ → Type 0
+IsOwnAt vs b = get_or (map (λ v. v.shared) vs) b true ≡ false
 
 -- there is a first block, and each other one has a number
 abbrev pub AreBlocks : List (List ℕ) → Type 0
 AreBlocks [] = ⊥
 AreBlocks (x ∷ bs) = All (λ v. 0 < length v) bs
 
--- a block with memory for as many numbers as a block has at most
-pub record IsBlock (v : Vec ℕ) : Type 0 where
-  pub few : vec_len v ≤ block_size
-  pub capacity : block_size ≤ vec_capacity v
-
--- a block with no number, and memory for as many as a block has at most
-pub record IsSpare (v : Vec ℕ) : Type 0 where
-  pub items : v.items ≡ []
-  pub none : vec_len v ≡ 0
-  pub capacity : block_size ≤ vec_capacity v
-
 -- what holds of a list of blocks and its spare blocks, for which it has memory
-pub record AreKept (list spares : Vec (Vec ℕ)) : Type 0 where
+pub record AreKept (list : Vec BlockNumbers) (spares : Vec (Vec ℕ)) : Type 0 where
   pub blocks : AreBlocks (blocks_of list.items)
-  pub each : All IsBlock list.items
   pub spare : All IsSpare spares.items
   pub room : vec_len list + vec_len spares ≤ vec_capacity list
 
@@ -50,7 +50,7 @@ abbrev pub split_at : List (List ℕ) → ℕ → List (List ℕ)
 split_at bs b = insert (set bs b (take half_size (get_or bs b []))) (suc b) (drop half_size (get_or bs b []))
 
 -- a block of these numbers was added at the end
-abbrev pub PushesBlock : List ℕ → List (Vec ℕ) → List (Vec ℕ) → Type 0
+abbrev pub PushesBlock : List ℕ → List BlockNumbers → List BlockNumbers → Type 0
 PushesBlock ns old new = blocks_of new ≡ blocks_of old ++ ns ∷ []
 
 -- how many numbers stand before an offset of a block

@@ -1,5 +1,5 @@
 -- What an index is of some cells.
-use Rattle.std.specs.Prelude.{◌≡◌, ◌∷◌, ◌++◌, ℕ, List, length, Option, None, true, Bool}
+use Rattle.std.specs.Prelude.{◌≡◌, ◌≤◌, ◌∷◌, ◌++◌, ℕ, List, length, Option, None, true, Bool}
 use Rattle.std.specs.Ordering.{is_lt}
 use Rattle.mls_leaf.specs.declared.node.Node.{Node}
 use Rattle.mls_tree_index.specs.declared.kind.KeyKind.{KeyKind}
@@ -7,17 +7,23 @@ use Rattle.mls_tree_index.specs.Keys.{key_in, keys_of, repeats_in, is_held}
 use Rattle.mls_tree_index.specs.Order.{Entries, IsPart, IsGap, entry_at, entry_cmp}
 use Rattle.mls_tree_model.specs.Sets.{same_bytes, is_distinct}
 
--- an index: the numbers of cells, how many keys repeat, and for how many more there is memory
+-- an index: the numbers of cells, how many keys repeat, how many spare blocks edits may take, and whether copies may
+-- share it
 pub record Listing : Type 0 where
   pub kind : KeyKind
   pub numbers : List ℕ
   pub repeats : ℕ
   pub room : ℕ
+  pub shared : Bool
 
 -- the index of these cells
 pub record Indexes (cells : List (Option Node)) (t : Listing) : Type 0 where
   pub entries : Entries (key_in t.kind cells) t.numbers
   pub repeats : t.repeats ≡ repeats_in (keys_of t.kind cells)
+
+-- where copies may share an index, there is room for so many cells to leave it
+abbrev pub CanLeave : ℕ → Listing → Type 0
+CanLeave n t = t.shared ≡ true → n ≤ t.room
 
 -- one except for its memory
 pub record SameIndex (s t : Listing) : Type 0 where

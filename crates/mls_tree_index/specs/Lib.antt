@@ -3,5 +3,6 @@ pub mod Order
 pub mod Indexes
 pub mod BlankedCells
 pub mod Entries
+pub mod Block
 pub mod Blocks
 pub mod Searches

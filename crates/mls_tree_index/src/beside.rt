@@ -10,7 +10,7 @@ ghost use Rattle.mls_tree_index.specs.BlankedCells.{AnswersHeldBeside, AnswersNe
 use crate::index::Index;
 use crate::order::is_same;
 use mls_leaf::Bytes;
-use mls_tree_slot::Slot;
+use mls_tree_cells::Cells;
 use std::alloc::AllocError;
 
 /// Whether a key is among others. `contains` would compare them by more than their first bytes.
@@ -23,8 +23,8 @@ fn is_among(key: &Bytes, keys: &[Bytes]) -> bool
 
 impl Index {
     /// Whether a cell that stands at none of these places has this key, where no two cells have one key.
-    fn holds_beside(&self, cells: &[Slot], places: &[u32], key: &[u8]) -> bool
-        ensures { AnswersHeldBeside self.now cells.now places.now key.now result }
+    fn holds_beside(&self, cells: &Cells, places: &[u32], key: &[u8]) -> bool
+        ensures { AnswersHeldBeside self.now cells.now.nodes places.now key.now result }
     {
         match self.holder(cells, key) {
             Some(x) => !places.contains(&x),
@@ -34,8 +34,8 @@ impl Index {
 
     /// Whether no two of these keys and those of the cells at none of these places are one, where no two cells have one
     /// key.
-    fn accepts_new(&self, cells: &[Slot], places: &[u32], key: &Bytes, keys: &[Bytes]) -> bool
-        ensures { AnswersNewBeside self.now cells.now places.now key.now keys.now result }
+    fn accepts_new(&self, cells: &Cells, places: &[u32], key: &Bytes, keys: &[Bytes]) -> bool
+        ensures { AnswersNewBeside self.now cells.now.nodes places.now key.now keys.now result }
     {
         if is_among(key, keys) || self.holds_beside(cells, places, key.as_slice()) {
             return false;
@@ -50,20 +50,21 @@ impl Index {
     /// memory only where two cells have one key.
     pub fn accepts_beside(
         &self,
-        cells: &[Slot],
+        cells: &Cells,
         places: &[u32],
         key: &Bytes,
         keys: &[Bytes],
     ) -> Result<bool, AllocError>
         requires { is_distinct nat_eq places.now ≡ true }
-        ensures answer { AcceptsBeside self.now cells.now places.now key.now keys.now result }
+        ensures answer { AcceptsBeside self.now cells.now.nodes places.now key.now keys.now result }
         // It takes no memory where no two cells have one key.
-        ensures outright { OnDistinct cells.now self.now (IsOk result) }
+        ensures outright { OnDistinct cells.now.nodes self.now (IsOk result) }
     {
         if self.are_distinct() {
             return Ok(self.accepts_new(cells, places, key, keys));
         }
         let mut rest = self.clone()?;
+        rest.reserve(places.len())?;
         rest.leave_all(cells, places);
         Ok(rest.accepts(cells, key, keys))
     }

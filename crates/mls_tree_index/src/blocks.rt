@@ -1,18 +1,17 @@
 //! A list of numbers in blocks, so that an edit moves numbers of one block alone.
 
-ghost use Rattle.std.specs.Prelude.{◌≡◌, ℕ, ◌+◌, ◌<◌, ◌≤◌, suc, [], length, get_or, vec_len, IfOk, OnOk};
-ghost use Rattle.std.specs.List.{All, concat, insert, remove};
+ghost use Rattle.std.specs.Prelude.{◌≡◌, ℕ, ◌+◌, ◌-◌, ◌<◌, ◌≤◌, suc, [], true, false, length, get_or, vec_len, IfOk, OnOk};
+ghost use Rattle.std.specs.List.{concat, insert, remove};
 ghost use Rattle.std.specs.Vec.{vec_capacity};
-ghost use Rattle.mls_tree_index.specs.Blocks.{AreBlocks, AreKept, IsBlock, IsNumberAt, IsOpenAt, IsSpare, IsSpot, PushesBlock, PutsNumber, TakesNumber, block_size, blocks_of, place_in, place_of, split_at};
+ghost use Rattle.mls_tree_index.specs.Block.{IsSpare, block_size};
+ghost use Rattle.mls_tree_index.specs.Blocks.{AreBlocks, AreKept, IsNumberAt, IsOpenAt, IsOwnAt, IsSpot, PushesBlock, PutsNumber, TakesNumber, are_shared, blocks_of, least_free, place_in, place_of, room_of, split_at};
 
+use crate::block::{BLOCK_SIZE, Block, HALF_SIZE, make_block};
 use std::alloc::{AllocError, Global};
 use std::marker::Model;
 
-/// How many numbers a block has at most.
-const BLOCK_SIZE: usize = 512;
-
-/// How many numbers each half of a full block has.
-const HALF_SIZE: usize = BLOCK_SIZE / 2;
+/// How few blocks a list has whose copies copy them all: for less than their pointers would cost.
+const FEW_BLOCKS: usize = 32;
 
 /// How many numbers a block of a new list has, except for the last one: fewer than fit, so that no split comes soon.
 const NEW_SIZE: usize = 448;
@@ -24,82 +23,47 @@ pub(crate) struct Spot {
     pub(crate) offset: usize,
 }
 
-/// A list of numbers in blocks. There is a first block, and each other one has a number. Each has memory for as many as
-/// a block has at most. A full block is split where a number enters it, into a spare one that was made beforehand, so
-/// that entering takes no memory.
+/// A list of numbers in blocks that copies may share. There is a first block, and each other one has a number. A block
+/// that copies share is copied before it is edited, and a full block is split where a number enters it: into spare
+/// blocks that were made beforehand, so that no edit takes memory. A list of a few blocks is copied whole, and none are
+/// made for it while its blocks have free places.
 #[derive(Drop)]
 pub(crate) struct Blocks {
-    list: Vec<Vec<u32>>,
-    /// Blocks with no number, for the upper halves of blocks that are split. The list has memory for them.
+    list: Vec<Block>,
+    /// Blocks with no number, for copies of blocks and for the upper halves of those that are split. The list has
+    /// memory for them.
     spares: Vec<Vec<u32>>,
 }
 
 impl Model for Blocks {
     ghost use Rattle.std.specs.Vec.{vec_len};
-    ghost use Rattle.mls_tree_index.specs.Blocks.{AreKept, BlockList, blocks_of};
+    ghost use Rattle.mls_tree_index.specs.Blocks.{AreKept, BlockList, are_shared, blocks_of, room_of};
 
     ghost Value = { BlockList };
 
-    ghost view = { λ b. record { blocks = blocks_of b.list.items; room = vec_len b.spares } };
+    ghost view = { λ b. record {
+      blocks = blocks_of b.list.items;
+      room = room_of (are_shared b.list.items) (blocks_of b.list.items) (vec_len b.spares);
+      shared = are_shared b.list.items;
+    } };
 
     ghost invariant = { λ b. AreKept b.list b.spares };
 }
 
-/// A block of these numbers, with memory for as many as a block has at most.
-fn make_block(alloc: Global, numbers: &[u32]) -> Result<Vec<u32>, AllocError>
-    requires { length numbers.now ≤ block_size }
-    ensures items { IfOk result (λ v. v.items ≡ numbers.now) }
-    ensures len { IfOk result (λ v. vec_len v ≡ length numbers.now) }
-    ensures capacity { IfOk result (λ v. block_size ≤ vec_capacity v) }
-{
-    let mut block = Vec::with_capacity(alloc, BLOCK_SIZE)?;
-    block.extend_from_slice(numbers)?;
-    Ok(block)
-}
-
-/// Puts a number into a block that has memory for it.
-fn put_in(block: &mut Vec<u32>, offset: usize, x: u32)
-    requires offset { offset ≤ vec_len block.old }
-    requires room { vec_len block.old < vec_capacity block.old }
-    ensures items { block.new.items ≡ insert block.old.items offset x }
-    ensures len { vec_len block.new ≡ vec_len block.old + 1 }
-    ensures capacity { vec_capacity block.new ≡ vec_capacity block.old }
-{
-    // There is room, so this isn't refused.
-    let Ok(()) = block.insert(offset, x) else {
-        return;
-    };
-}
-
-/// Takes the number at a place out, and answers how many are left. `Vec::remove` would move the others in short parts,
-/// for twice the work.
-fn take_out(block: &mut Vec<u32>, offset: usize) -> usize
-    requires { offset < vec_len block.old }
-    ensures items { block.new.items ≡ remove block.old.items offset }
-    ensures len { vec_len block.new + 1 ≡ vec_len block.old }
-    ensures capacity { vec_capacity block.new ≡ vec_capacity block.old }
-    ensures left { result ≡ vec_len block.new }
-{
-    let end = block.len();
-    block.copy_within(offset + 1..end, offset);
-    block.truncate(end - 1);
-    end - 1
-}
-
-/// Adds a block of these numbers at the end.
-fn push_block(list: &mut Vec<Vec<u32>>, numbers: &[u32]) -> Result<(), AllocError>
+/// Adds a block of one's own with these numbers at the end.
+fn push_block(list: &mut Vec<Block>, numbers: &[u32]) -> Result<(), AllocError>
     requires { length numbers.now ≤ block_size }
     ensures blocks { OnOk result (PushesBlock numbers.now list.old.items list.new.items) }
-    ensures each { OnOk result (All IsBlock list.old.items → All IsBlock list.new.items) }
+    ensures own { OnOk result (are_shared list.old.items ≡ false → are_shared list.new.items ≡ false) }
 {
     let block = make_block(*list.allocator(), numbers)?;
-    list.push(block)?;
+    list.push(Block::of(block))?;
     Ok(())
 }
 
 /// Adds blocks with no number, until there are so many, and makes room for them in the list.
 fn add_spares(
-    list: &mut Vec<Vec<u32>>,
+    list: &mut Vec<Block>,
     spares: &mut Vec<Vec<u32>>,
     count: usize,
 ) -> Result<(), AllocError>
@@ -120,49 +84,103 @@ fn add_spares(
     Ok(())
 }
 
-/// Splits a full block in halves, the upper one into a block with no number. The list has memory for that.
-fn split_block(list: &mut Vec<Vec<u32>>, b: usize, mut upper: Vec<u32>)
+/// How many more numbers fit into each block.
+fn count_free(list: &[Block]) -> usize
+    ensures { result ≡ least_free (blocks_of list.now) }
+{
+    let mut free = BLOCK_SIZE;
+    for block in list {
+        free = free.min(BLOCK_SIZE - block.numbers().len());
+    }
+    free
+}
+
+/// Whether copies may share one of the blocks.
+fn are_shared(list: &[Block]) -> bool
+    ensures { result ≡ are_shared list.now }
+{
+    list.iter().any(|block| block.is_shared())
+}
+
+/// How many spare blocks make so much room.
+fn spares_for(list: &[Block], count: usize) -> usize
+    ensures { count ≤ room_of (are_shared list.now) (blocks_of list.now) result }
+{
+    if are_shared(list) {
+        return count;
+    }
+    (count - count / 2).saturating_sub(count_free(list))
+}
+
+/// Makes a block one's own: where others share it, it takes a spare block.
+fn own_block(list: &mut Vec<Block>, spares: &mut Vec<Vec<u32>>, b: usize)
+    requires kept { AreKept list.old spares.old }
     requires block { b < vec_len list.old }
+    requires room { are_shared list.old.items ≡ true → 0 < vec_len spares.old }
+    ensures kept { AreKept list.new spares.new }
+    ensures room { vec_len spares.old ≤ suc (vec_len spares.new) }
+    ensures blocks { blocks_of list.new.items ≡ blocks_of list.old.items }
+    ensures own { IsOwnAt list.new.items b }
+    ensures others { are_shared list.old.items ≡ false → are_shared list.new.items ≡ false }
+    ensures stays { are_shared list.old.items ≡ false → vec_len spares.new ≡ vec_len spares.old }
+{
+    let alloc = *list.allocator();
+    if list[b].try_own(alloc) {
+        return;
+    }
+    // There is room, so there is a spare one.
+    let Some(spare) = spares.pop() else {
+        return;
+    };
+    list[b].make_own(spare);
+}
+
+/// Splits a full block of one's own in halves, the upper one into a block with no number. The list has memory for that.
+fn split_block(list: &mut Vec<Block>, b: usize, spare: Vec<u32>)
+    requires own { IsOwnAt list.old.items b }
     requires full { length (get_or (blocks_of list.old.items) b []) ≡ block_size }
     requires room { vec_len list.old < vec_capacity list.old }
-    requires spare { IsSpare upper }
+    requires spare { IsSpare spare }
     ensures len { vec_len list.new ≡ vec_len list.old + 1 }
     ensures capacity { vec_capacity list.old ≤ vec_capacity list.new }
     ensures blocks { blocks_of list.new.items ≡ split_at (blocks_of list.old.items) b }
-    ensures each { All IsBlock list.old.items → All IsBlock list.new.items }
+    ensures lower { IsOwnAt list.new.items b }
+    ensures upper { IsOwnAt list.new.items (suc b) }
+    ensures others { are_shared list.old.items ≡ false → are_shared list.new.items ≡ false }
 {
-    let (_, behind) = list[b].split_at(HALF_SIZE);
-    // The block has memory for a half, so this isn't refused.
-    let Ok(()) = upper.extend_from_slice(behind) else {
-        return;
-    };
-    list[b].truncate(HALF_SIZE);
+    let upper = list[b].split(spare);
     // There is room, so this isn't refused.
     let Ok(()) = list.insert(b + 1, upper) else {
         return;
     };
 }
 
-/// Splits the block of a place where it is full, and answers the place before which the same numbers stand then.
-fn make_way(list: &mut Vec<Vec<u32>>, spares: &mut Vec<Vec<u32>>, spot: Spot) -> Spot
+/// Splits the block of a place, one's own, where it is full, and answers the place before which the same numbers stand
+/// then.
+fn make_way(list: &mut Vec<Block>, spares: &mut Vec<Vec<u32>>, spot: Spot) -> Spot
     requires kept { AreKept list.old spares.old }
-    requires room { 0 < vec_len spares.old }
+    requires room { 0 < vec_len spares.old + least_free (blocks_of list.old.items) }
     requires spot { IsSpot (blocks_of list.old.items) spot }
+    requires own { IsOwnAt list.old.items spot.block }
     ensures kept { AreKept list.new spares.new }
     ensures room { vec_len spares.old ≤ suc (vec_len spares.new) }
+    ensures free { vec_len spares.old + least_free (blocks_of list.old.items) ≤
+        vec_len spares.new + suc (least_free (blocks_of list.new.items) - 1) }
     ensures numbers { concat (blocks_of list.new.items) ≡ concat (blocks_of list.old.items) }
     ensures spot { IsOpenAt (blocks_of list.new.items) result }
     ensures place { place_of (blocks_of list.new.items) result ≡
         place_of (blocks_of list.old.items) spot }
+    ensures own { IsOwnAt list.new.items result.block }
+    ensures others { are_shared list.old.items ≡ false → are_shared list.new.items ≡ false }
 {
-    if list[spot.block].len() < BLOCK_SIZE {
+    if list[spot.block].numbers().len() < BLOCK_SIZE {
         return spot;
     }
     // There is room, so there is a spare one.
-    let Some(upper) = spares.pop() else {
+    let Some(spare) = spares.pop() else {
         return spot;
     };
-    split_block(list, spot.block, upper);
+    split_block(list, spot.block, spare);
     if spot.offset <= HALF_SIZE {
         return spot;
     }
@@ -172,10 +190,78 @@ fn make_way(list: &mut Vec<Vec<u32>>, spares: &mut Vec<Vec<u32>>, spot: Spot) ->
     }
 }
 
+/// Takes the number at an offset of a block of one's own out, and the block too where it had no other and isn't the
+/// only one.
+fn take_from(list: &mut Vec<Block>, b: usize, offset: usize)
+    requires blocks { AreBlocks (blocks_of list.old.items) }
+    requires own { IsOwnAt list.old.items b }
+    requires offset { offset < length (get_or (blocks_of list.old.items) b []) }
+    ensures blocks { AreBlocks (blocks_of list.new.items) }
+    ensures len { vec_len list.new ≤ vec_len list.old }
+    ensures capacity { vec_capacity list.new ≡ vec_capacity list.old }
+    ensures free { least_free (blocks_of list.old.items) ≤ least_free (blocks_of list.new.items) }
+    ensures numbers { concat (blocks_of list.new.items) ≡ remove (concat (blocks_of list.old.items))
+        (place_in (blocks_of list.old.items) b offset) }
+    ensures others { are_shared list.old.items ≡ false → are_shared list.new.items ≡ false }
+{
+    let left = list[b].take_out(offset);
+    if left > 0 {
+        return;
+    }
+    if list.len() > 1 {
+        let _block = list.remove(b);
+    }
+}
+
+/// Lets later copies share each block.
+fn share_all(list: &mut Vec<Block>)
+    ensures blocks { blocks_of list.new.items ≡ blocks_of list.old.items }
+    ensures len { vec_len list.new ≡ vec_len list.old }
+    ensures capacity { vec_capacity list.new ≡ vec_capacity list.old }
+{
+    let alloc = *list.allocator();
+    for b in 0..list.len() {
+        list[b].share(alloc);
+    }
+}
+
+/// Makes a block one's own. Without memory for a copy the numbers stay.
+fn own_one(list: &mut Vec<Block>, b: usize) -> Result<(), AllocError>
+    requires { b < vec_len list.old }
+    ensures blocks { blocks_of list.new.items ≡ blocks_of list.old.items }
+    ensures len { vec_len list.new ≡ vec_len list.old }
+    ensures capacity { vec_capacity list.new ≡ vec_capacity list.old }
+    ensures own { OnOk result (IsOwnAt list.new.items b) }
+    ensures others { (k : ℕ) → IsOwnAt list.old.items k → IsOwnAt list.new.items k }
+{
+    let alloc = *list.allocator();
+    if list[b].try_own(alloc) {
+        return Ok(());
+    }
+    let spare = make_block(alloc, &[])?;
+    list[b].make_own(spare);
+    Ok(())
+}
+
+/// Makes each block one's own. Without memory for one the numbers stay.
+fn own_all(list: &mut Vec<Block>) -> Result<(), AllocError>
+    ensures blocks { blocks_of list.new.items ≡ blocks_of list.old.items }
+    ensures len { vec_len list.new ≡ vec_len list.old }
+    ensures capacity { vec_capacity list.new ≡ vec_capacity list.old }
+    ensures own { OnOk result (are_shared list.new.items ≡ false) }
+    ensures others { (k : ℕ) → IsOwnAt list.old.items k → IsOwnAt list.new.items k }
+{
+    for b in 0..list.len() {
+        own_one(list, b)?;
+    }
+    Ok(())
+}
+
 impl Blocks {
     /// The list of these numbers.
     pub(crate) fn new(alloc: Global, numbers: &[u32]) -> Result<Blocks, AllocError>
-        ensures { IfOk result (λ b. concat b.blocks ≡ numbers.now) }
+        ensures numbers { IfOk result (λ b. concat b.blocks ≡ numbers.now) }
+        ensures own { IfOk result (λ b. b.shared ≡ false) }
     {
         let mut list = Vec::new(alloc);
         let (first, mut rest) = numbers.split_at(numbers.len().min(NEW_SIZE));
@@ -204,7 +290,7 @@ impl Blocks {
         ensures numbers { result.now ≡ get_or self.now.blocks b [] }
         ensures full { 0 < b → 0 < length result.now }
     {
-        self.list[b].as_slice()
+        self.list[b].numbers()
     }
 
     /// The number behind a place, where there is one.
@@ -223,52 +309,81 @@ impl Blocks {
         None
     }
 
-    /// Makes room for so many more numbers, each of which may split a block. Without memory for it the numbers stay as
-    /// they are.
+    /// Makes so much room: an edit takes a spare block where its block is shared, and entering a number another one
+    /// where the block is full. Without memory for spare blocks the numbers stay as they are.
     pub(crate) fn reserve(&mut self, count: usize) -> Result<(), AllocError>
         ensures room { OnOk result (count ≤ self.new.room) }
         ensures more { self.old.room ≤ self.new.room }
         ensures blocks { self.new.blocks ≡ self.old.blocks }
+        ensures own { self.old.shared ≡ false → self.new.shared ≡ false }
     {
-        add_spares(&mut self.list, &mut self.spares, count)
+        let spares = spares_for(&self.list, count);
+        add_spares(&mut self.list, &mut self.spares, spares)?;
+        Ok(())
     }
 
-    /// Puts a number at a place. There is room.
-    pub(crate) fn insert(&mut self, spot: Spot, x: u32)
-        requires room { 0 < self.old.room }
-        requires spot { IsSpot self.old.blocks spot }
-        ensures room { self.old.room ≤ suc self.new.room }
-        ensures numbers { PutsNumber spot x self.old self.new }
+    /// Lets later copies share each block. Where there are few they stay one's own, and the spare ones are dropped.
+    /// Without memory for a block's pointer it stays one's own.
+    pub(crate) fn share(&mut self)
+        ensures { self.new.blocks ≡ self.old.blocks }
     {
+        if self.list.len() < FEW_BLOCKS {
+            self.spares.clear();
+            return;
+        }
+        share_all(&mut self.list);
+    }
+
+    /// Makes each block one's own. Without memory for one the numbers stay as they are.
+    pub(crate) fn make_own(&mut self) -> Result<(), AllocError>
+        ensures blocks { self.new.blocks ≡ self.old.blocks }
+        ensures room { self.old.room ≤ self.new.room }
+        ensures own { OnOk result (self.new.shared ≡ false) }
+    {
+        own_all(&mut self.list)
+    }
+
+    /// Puts a number at a place. There is room for a copy of its block and for a split.
+    pub(crate) fn insert(&mut self, spot: Spot, x: u32)
+        requires room { 2 ≤ self.old.room }
+        requires spot { IsSpot self.old.blocks spot }
+        ensures room { self.old.room ≤ self.new.room + 2 }
+        ensures numbers { PutsNumber spot x self.old self.new }
+        ensures own { self.old.shared ≡ false → self.new.shared ≡ false }
+    {
+        own_block(&mut self.list, &mut self.spares, spot.block);
         let spot = make_way(&mut self.list, &mut self.spares, spot);
-        put_in(&mut self.list[spot.block], spot.offset, x);
+        self.list[spot.block].put_in(spot.offset, x);
     }
 
     /// Takes the number at an offset of a block out, and the block too where it had no other and isn't the only one.
+    /// There is room for a copy of it where blocks are shared.
     fn take(&mut self, b: usize, offset: usize)
+        requires room { self.old.shared ≡ true → 0 < self.old.room }
         requires block { b < length self.old.blocks }
         requires offset { offset < length (get_or self.old.blocks b []) }
-        ensures room { self.new.room ≡ self.old.room }
+        ensures room { self.old.room ≤ suc self.new.room }
         ensures numbers { concat self.new.blocks ≡ remove (concat self.old.blocks)
             (place_in self.old.blocks b offset) }
+        ensures own { self.old.shared ≡ false → self.new.shared ≡ false }
+        ensures stays { self.old.shared ≡ false → self.old.room ≤ self.new.room }
     {
-        let left = take_out(&mut self.list[b], offset);
-        if left > 0 {
-            return;
-        }
-        if self.list.len() > 1 {
-            let _block = self.list.remove(b);
-        }
+        own_block(&mut self.list, &mut self.spares, b);
+        take_from(&mut self.list, b, offset);
     }
 
-    /// Takes the number behind a place out, where there is one.
+    /// Takes the number behind a place out, where there is one. There is room for a copy of its block where blocks are
+    /// shared.
     pub(crate) fn remove(&mut self, spot: Spot)
-        requires { IsSpot self.old.blocks spot }
-        ensures room { self.new.room ≡ self.old.room }
+        requires room { self.old.shared ≡ true → 0 < self.old.room }
+        requires spot { IsSpot self.old.blocks spot }
+        ensures room { self.old.room ≤ suc self.new.room }
         ensures some { place_of self.old.blocks spot < length (concat self.old.blocks) →
             TakesNumber spot self.old self.new }
         ensures none { length (concat self.old.blocks) ≤ place_of self.old.blocks spot →
             self.new ≡ self.old }
+        ensures own { self.old.shared ≡ false → self.new.shared ≡ false }
+        ensures stays { self.old.shared ≡ false → self.old.room ≤ self.new.room }
     {
         let block = self.block(spot.block);
         if spot.offset < block.len() {
@@ -286,12 +401,8 @@ impl Clone for Blocks {
     ghost is_clone = { λ s t. t.blocks ≡ s.blocks };
 
     fn clone(&self) -> Result<Blocks, AllocError> {
-        let alloc = *self.list.allocator();
-        let mut list = Vec::with_capacity(alloc, self.list.len())?;
-        for block in &self.list {
-            push_block(&mut list, block.as_slice())?;
-        }
-        let spares = Vec::new(alloc);
+        let list = self.list.clone()?;
+        let spares = Vec::new(*self.list.allocator());
         Ok(Blocks { list, spares })
     }
 }

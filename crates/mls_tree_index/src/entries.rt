@@ -7,7 +7,7 @@ ghost use Rattle.mls_tree_index.specs.Entries.{front_of, BeginsWithBytes, fronte
 
 use crate::kind::KeyKind;
 use crate::order::{compare, is_same};
-use mls_tree_slot::Slot;
+use mls_tree_cells::Cells;
 use std::alloc::{AllocError, Global};
 use std::cmp::Ordering;
 
@@ -43,8 +43,8 @@ fn read_front(key: &[u8]) -> u32
 
 impl Entry {
     /// Its key.
-    fn key(self, kind: KeyKind, cells: &[Slot]) -> &[u8]
-        ensures { result.now ≡ unwrap_or (key_in kind cells.now self.number) [] }
+    fn key(self, kind: KeyKind, cells: &Cells) -> &[u8]
+        ensures { result.now ≡ unwrap_or (key_in kind cells.now.nodes self.number) [] }
     {
         kind.key_in(cells, self.number).unwrap_or(&[])
     }
@@ -52,9 +52,9 @@ impl Entry {
 
 /// The order of two entries.
 #[tactic(auto, using(crate::proofs::KeyFronts::then_other, crate::proofs::KeyFronts::then_same))]
-fn compare_entries(kind: KeyKind, cells: &[Slot], one: &Entry, other: &Entry) -> Ordering
-    ensures { result ≡ front_cmp (fronted (key_in kind cells.now) one.now)
-        (fronted (key_in kind cells.now) other.now) }
+fn compare_entries(kind: KeyKind, cells: &Cells, one: &Entry, other: &Entry) -> Ordering
+    ensures { result ≡ front_cmp (fronted (key_in kind cells.now.nodes) one.now)
+        (fronted (key_in kind cells.now.nodes) other.now) }
 {
     if one.front != other.front {
         return one.front.cmp(&other.front);
@@ -63,9 +63,9 @@ fn compare_entries(kind: KeyKind, cells: &[Slot], one: &Entry, other: &Entry) ->
 }
 
 /// The entries of these cells, by number.
-fn list_entries(alloc: Global, kind: KeyKind, cells: &[Slot]) -> Result<Vec<Entry>, AllocError>
-    requires { length cells.now ≤ 2 ^ 32 }
-    ensures { IfOk result (λ v. AreEntries (key_in kind cells.now) v.items) }
+fn list_entries(alloc: Global, kind: KeyKind, cells: &Cells) -> Result<Vec<Entry>, AllocError>
+    requires { length cells.now.nodes ≤ 2 ^ 32 }
+    ensures { IfOk result (λ v. AreEntries (key_in kind cells.now.nodes) v.items) }
 {
     let mut entries = Vec::with_capacity(alloc, cells.len())?;
     for x in 0..cells.len() {
@@ -82,11 +82,11 @@ fn list_entries(alloc: Global, kind: KeyKind, cells: &[Slot]) -> Result<Vec<Entr
 pub(crate) fn sort_entries(
     alloc: Global,
     kind: KeyKind,
-    cells: &[Slot],
+    cells: &Cells,
 ) -> Result<Vec<Entry>, AllocError>
-    requires { length cells.now ≤ 2 ^ 32 }
-    ensures entries { IfOk result (λ v. AreEntries (key_in kind cells.now) v.items) }
-    ensures ascend { IfOk result (λ v. EntriesAscend (key_in kind cells.now) v.items) }
+    requires { length cells.now.nodes ≤ 2 ^ 32 }
+    ensures entries { IfOk result (λ v. AreEntries (key_in kind cells.now.nodes) v.items) }
+    ensures ascend { IfOk result (λ v. EntriesAscend (key_in kind cells.now.nodes) v.items) }
 {
     let mut entries = list_entries(alloc, kind, cells)?;
     entries.sort_unstable_by(|one, other| compare_entries(kind, cells, one, other));
@@ -95,10 +95,10 @@ pub(crate) fn sort_entries(
 
 /// Whether the entry before a place has the key of that at the place. Keys are read only where their fronts are the
 /// same.
-pub(crate) fn is_again(kind: KeyKind, cells: &[Slot], entries: &[Entry], place: usize) -> bool
-    requires listed { AreEntries (key_in kind cells.now) entries.now }
+pub(crate) fn is_again(kind: KeyKind, cells: &Cells, entries: &[Entry], place: usize) -> bool
+    requires listed { AreEntries (key_in kind cells.now.nodes) entries.now }
     requires within { place < length entries.now }
-    ensures { result ≡ is_again (key_in kind cells.now) entries.now place }
+    ensures { result ≡ is_again (key_in kind cells.now.nodes) entries.now place }
 {
     if place == 0 {
         return false;

@@ -1,18 +1,19 @@
 //! The index: numbers of cells in the order of their keys.
 
-ghost use Rattle.std.specs.Prelude.{◌≡◌, ◌<◌, ◌≤◌, ◌^◌, suc, length, IfOk, OnOk};
+ghost use Rattle.std.specs.Prelude.{◌≡◌, ◌+◌, ◌≤◌, ◌^◌, suc, false, length, IfOk, OnOk};
 ghost use Rattle.mls_tree_index.specs.Keys.{IsHolder};
-ghost use Rattle.mls_tree_index.specs.Indexes.{Indexes, SameIndex, AnswersHeld, EntersCell, LeavesCell, AnswersDistinct};
+ghost use Rattle.mls_tree_index.specs.Indexes.{Indexes, SameIndex, AnswersHeld, CanLeave, EntersCell, LeavesCell, AnswersDistinct};
 
 use crate::blocks::Blocks;
 use crate::entries::{is_again, sort_entries};
 use crate::kind::KeyKind;
-use mls_tree_slot::Slot;
+use mls_tree_cells::Cells;
 use std::alloc::{AllocError, Global};
 use std::marker::Model;
 
 /// The numbers of the cells that have a key of one kind, in the order of the keys, and of cells with one key by number.
-/// The keys stay in the cells, so a copy is a plain copy of numbers. It keeps count of keys that repeat.
+/// The keys stay in the cells. The numbers stand in blocks that copies may share, so that a copy of a shared index
+/// copies pointers, and an edit the block that it changes. It keeps count of keys that repeat.
 #[derive(Drop)]
 pub struct Index {
     pub(crate) kind: KeyKind,
@@ -26,15 +27,22 @@ impl Model for Index {
 
     ghost Value = { Listing };
 
-    ghost view = { λ t. record { kind = t.kind; numbers = concat t.blocks.blocks; repeats = t.repeats; room = t.blocks.room } };
+    ghost view = { λ t. record {
+      kind = t.kind;
+      numbers = concat t.blocks.blocks;
+      repeats = t.repeats;
+      room = t.blocks.room;
+      shared = t.blocks.shared;
+    } };
 }
 
 impl Index {
     /// The index of these cells. Their entries are sorted, and each that has the key of the one before it is counted.
-    pub fn build(alloc: Global, kind: KeyKind, cells: &[Slot]) -> Result<Index, AllocError>
-        requires { length cells.now ≤ 2 ^ 32 }
+    pub fn build(alloc: Global, kind: KeyKind, cells: &Cells) -> Result<Index, AllocError>
+        requires { length cells.now.nodes ≤ 2 ^ 32 }
         ensures kind { IfOk result (λ t. t.kind ≡ kind) }
-        ensures built { IfOk result (λ t. Indexes cells.now t) }
+        ensures built { IfOk result (λ t. Indexes cells.now.nodes t) }
+        ensures own { IfOk result (λ t. t.shared ≡ false) }
     {
         let entries = sort_entries(alloc, kind, cells)?;
         let mut numbers = Vec::with_capacity(alloc, entries.len())?;
@@ -53,26 +61,46 @@ impl Index {
         })
     }
 
-    /// Makes room for so many more cells, so that entering them takes no memory. Without memory for it all stays.
+    /// Makes room for so many spare blocks, so that edits take no memory: a cell that enters takes two at most, and one
+    /// that leaves takes one at most, where copies may share the index. Without memory for it all stays.
     pub fn reserve(&mut self, count: usize) -> Result<(), AllocError>
         ensures room { OnOk result (count ≤ self.new.room) }
         ensures more { self.old.room ≤ self.new.room }
         ensures same { SameIndex self.old self.new }
+        ensures own { self.old.shared ≡ false → self.new.shared ≡ false }
     {
         self.blocks.reserve(count)
     }
 
+    /// Lets later copies share it, unless it is small. What there is no memory for isn't shared. Room that was made
+    /// goes.
+    pub fn share(&mut self)
+        ensures same { SameIndex self.old self.new }
+    {
+        self.blocks.share();
+    }
+
+    /// Makes it one's own, so that cells leave it without room. Without memory for it all stays, though copies
+    /// may share less of it.
+    pub fn make_own(&mut self) -> Result<(), AllocError>
+        ensures same { SameIndex self.old self.new }
+        ensures room { self.old.room ≤ self.new.room }
+        ensures own { OnOk result (self.new.shared ≡ false) }
+    {
+        self.blocks.make_own()
+    }
+
     /// Whether some cell has this key. The cells may have more keys than those that the index is of.
-    pub fn holds(&self, cells: &[Slot], key: &[u8]) -> bool
-        ensures { AnswersHeld self.now cells.now key.now result }
+    pub fn holds(&self, cells: &Cells, key: &[u8]) -> bool
+        ensures { AnswersHeld self.now cells.now.nodes key.now result }
     {
         let spot = self.blocks.spot_of(self.kind, cells, key, 0);
         self.blocks.is_key_at(self.kind, cells, spot, key)
     }
 
     /// A cell that has this key, where there is one.
-    pub(crate) fn holder(&self, cells: &[Slot], key: &[u8]) -> Option<u32>
-        ensures { Indexes cells.now self.now → IsHolder self.now.kind cells.now key.now result }
+    pub(crate) fn holder(&self, cells: &Cells, key: &[u8]) -> Option<u32>
+        ensures { Indexes cells.now.nodes self.now → IsHolder self.now.kind cells.now.nodes key.now result }
     {
         let spot = self.blocks.spot_of(self.kind, cells, key, 0);
         let Some(x) = self.blocks.number_at(spot) else {
@@ -85,12 +113,14 @@ impl Index {
         }
     }
 
-    /// Enters a cell: after it was filled, where it was blank. Where the cell has no key, all stays.
-    pub fn enter(&mut self, cells: &[Slot], x: u32)
-        requires { 0 < self.old.room }
+    /// Enters a cell: after it was filled, where it was blank. Takes room for two spare blocks at most. Where the cell
+    /// has no key, all stays.
+    pub fn enter(&mut self, cells: &Cells, x: u32)
+        requires { 2 ≤ self.old.room }
         ensures kind { self.new.kind ≡ self.old.kind }
-        ensures room { self.old.room ≤ suc self.new.room }
-        ensures entered { EntersCell x cells.now self.old self.new }
+        ensures room { self.old.room ≤ self.new.room + 2 }
+        ensures entered { EntersCell x cells.now.nodes self.old self.new }
+        ensures own { self.old.shared ≡ false → self.new.shared ≡ false }
     {
         let Some(key) = self.kind.key_in(cells, x) else {
             return;
@@ -98,16 +128,24 @@ impl Index {
         let spot = self.blocks.spot_of(self.kind, cells, key, x);
         let again = self.blocks.is_beside(self.kind, cells, spot, key);
         self.blocks.insert(spot, x);
-        if again {
-            self.repeats = self.repeats.saturating_add(1);
+        if !again {
+            return;
+        }
+        // No more keys repeat than there are cells.
+        if self.repeats < cells.len() {
+            self.repeats += 1;
         }
     }
 
-    /// Takes a cell out: before it is blanked or replaced. Where the cell has no key, all stays.
-    pub fn leave(&mut self, cells: &[Slot], x: u32)
+    /// Takes a cell out: before it is blanked or replaced. Takes room for one spare block at most, and none where no
+    /// copy shares the index. Where the cell has no key, all stays.
+    pub fn leave(&mut self, cells: &Cells, x: u32)
+        requires { CanLeave 1 self.old }
         ensures kind { self.new.kind ≡ self.old.kind }
-        ensures room { self.old.room ≤ self.new.room }
-        ensures left { LeavesCell x cells.now self.old self.new }
+        ensures room { self.old.room ≤ suc self.new.room }
+        ensures left { LeavesCell x cells.now.nodes self.old self.new }
+        ensures own { self.old.shared ≡ false → self.new.shared ≡ false }
+        ensures stays { self.old.shared ≡ false → self.old.room ≤ self.new.room }
     {
         let Some(key) = self.kind.key_in(cells, x) else {
             return;

@@ -5,6 +5,7 @@ ghost use Rattle.std.specs.Option.{option_copied};
 ghost use Rattle.mls_tree_index.specs.Keys.{key_of, key_in, is_key};
 
 use mls_leaf::Node;
+use mls_tree_cells::Cells;
 use mls_tree_slot::Slot;
 
 /// A key of a cell.
@@ -30,15 +31,15 @@ impl KeyKind {
     }
 
     /// The key of the cell with this number, where there is one.
-    pub(crate) fn key_in(self, cells: &[Slot], x: u32) -> Option<&[u8]>
-        ensures { option_copied result ≡ key_in self cells.now x }
+    pub(crate) fn key_in(self, cells: &Cells, x: u32) -> Option<&[u8]>
+        ensures { option_copied result ≡ key_in self cells.now.nodes x }
     {
         self.key_of(cells.get(x as usize)?)
     }
 
     /// Whether the cell with this number has this key.
-    pub(crate) fn is_key_in(self, cells: &[Slot], x: u32, key: &[u8]) -> bool
-        ensures { result ≡ is_key key.now (key_in self cells.now x) }
+    pub(crate) fn is_key_in(self, cells: &Cells, x: u32, key: &[u8]) -> bool
+        ensures { result ≡ is_key key.now (key_in self cells.now.nodes x) }
     {
         match self.key_in(cells, x) {
             Some(own) => own == key,

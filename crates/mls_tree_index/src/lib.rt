@@ -2,6 +2,7 @@
 #![tactic(auto)]
 
 mod beside;
+mod block;
 mod blocks;
 mod entries;
 mod index;

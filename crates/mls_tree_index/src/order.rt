@@ -7,7 +7,7 @@ ghost use Rattle.mls_tree_index.specs.Keys.{key_in};
 ghost use Rattle.mls_tree_index.specs.Order.{entry_at, entry_cmp};
 
 use crate::kind::KeyKind;
-use mls_tree_slot::Slot;
+use mls_tree_cells::Cells;
 use std::cmp::Ordering;
 
 /// The order of two keys. Most differ in one of their first bytes, and a comparison of slices begins with more.
@@ -31,8 +31,8 @@ pub(crate) fn is_same(own: &[u8], key: &[u8]) -> bool
 }
 
 /// Whether the entry of a cell comes before that of a key and a number.
-pub(crate) fn is_before(kind: KeyKind, cells: &[Slot], y: u32, key: &[u8], x: u32) -> bool
-    ensures { result ≡ is_lt (entry_cmp (entry_at (key_in kind cells.now) y) (key.now, x)) }
+pub(crate) fn is_before(kind: KeyKind, cells: &Cells, y: u32, key: &[u8], x: u32) -> bool
+    ensures { result ≡ is_lt (entry_cmp (entry_at (key_in kind cells.now.nodes) y) (key.now, x)) }
 {
     let own = kind.key_in(cells, y).unwrap_or(&[]);
     match compare(own, key) {

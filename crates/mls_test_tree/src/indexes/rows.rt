@@ -5,6 +5,7 @@ ghost use Rattle.std.specs.Prelude.{◌≡◌, nat_eq, true};
 ghost use Rattle.mls_tree_model.specs.Sets.{is_distinct};
 
 use mls_leaf::{Bytes, Capabilities, Credential, Items, LeafNode, LeafSource, Node, ParentNode};
+use mls_tree_cells::{Cells, Change};
 use mls_tree_index::{Index, KeyKind};
 use mls_tree_slot::Slot;
 use std::alloc::{AllocError, Global};
@@ -65,16 +66,16 @@ fn slot_of(alloc: Global, cell: Cell) -> Result<Slot, AllocError> {
     }
 }
 
-fn slots_of(alloc: Global, cells: &[Cell]) -> Result<Vec<Slot>, AllocError> {
+fn cells_of(alloc: Global, cells: &[Cell]) -> Result<Cells, AllocError> {
     let mut slots = Vec::new(alloc);
     for cell in cells {
         slots.push(slot_of(alloc, *cell)?)?;
     }
-    Ok(slots)
+    Cells::from_slots(slots)
 }
 
 /// The index of a hundred cells at most.
-pub(crate) fn index(alloc: Global, kind: KeyKind, cells: &[Slot]) -> Result<Index, AllocError> {
+pub(crate) fn index(alloc: Global, kind: KeyKind, cells: &Cells) -> Result<Index, AllocError> {
     if cells.len() > 100 {
         return Err(AllocError);
     }
@@ -120,7 +121,7 @@ fn nowhere() -> [u32; 0]
 #[derive(Clone, Copy)]
 pub(crate) enum Step {
     /// Puts this into the cell at a place, which the index isn't told.
-    Put(usize, Cell),
+    Put(u32, Cell),
     Enter(u32),
     Leave(u32),
     /// Enters some cells at once.
@@ -131,7 +132,7 @@ pub(crate) enum Step {
     LeaveNowhere,
     /// Takes the cell at this place out, as many are.
     LeaveAt(u32),
-    /// Keeps a copy of the index.
+    /// Shares the index, and keeps a copy of it.
     KeepCopy,
     /// Whether some cell has this key.
     Holds(&'static [u8]),
@@ -154,75 +155,79 @@ pub(crate) type Row = (Step, bool);
 /// Cells, their index and a copy of it.
 #[derive(Drop)]
 struct Indexed {
-    cells: Vec<Slot>,
+    cells: Cells,
     index: Index,
     copy: Index,
 }
 
 pub(crate) fn put(
     alloc: Global,
-    cells: &mut [Slot],
-    x: usize,
+    cells: &mut Cells,
+    place: u32,
     cell: Cell,
 ) -> Result<bool, AllocError> {
     let slot = slot_of(alloc, cell)?;
-    match cells.get_mut(x) {
-        Some(place) => {
-            *place = slot;
-            Ok(true)
-        }
-        None => Ok(false),
+    if place as usize >= cells.len() {
+        return Ok(false);
     }
+    cells.put(vec![in alloc; Change { place, slot }]?)?;
+    Ok(true)
 }
 
-fn enter(index: &mut Index, cells: &[Slot], x: u32) -> Result<bool, AllocError> {
-    index.reserve(1)?;
+fn enter(index: &mut Index, cells: &Cells, x: u32) -> Result<bool, AllocError> {
+    index.reserve(2)?;
     index.enter(cells, x);
     Ok(true)
 }
 
-pub(crate) fn leave(index: &mut Index, cells: &[Slot], x: u32) -> bool {
+pub(crate) fn leave(index: &mut Index, cells: &Cells, x: u32) -> Result<bool, AllocError> {
+    index.reserve(1)?;
     index.leave(cells, x);
-    true
+    Ok(true)
 }
 
-fn enter_some(index: &mut Index, cells: &[Slot]) -> Result<bool, AllocError> {
-    index.reserve(4)?;
+fn enter_some(index: &mut Index, cells: &Cells) -> Result<bool, AllocError> {
+    index.reserve(8)?;
     index.enter_all(cells, &some());
     Ok(true)
 }
 
-fn leave_some(index: &mut Index, cells: &[Slot]) -> bool {
+fn leave_some(index: &mut Index, cells: &Cells) -> Result<bool, AllocError> {
+    index.reserve(4)?;
     index.leave_all(cells, &some());
-    true
+    Ok(true)
 }
 
-fn leave_inner(index: &mut Index, cells: &[Slot]) -> bool {
+fn leave_inner(index: &mut Index, cells: &Cells) -> Result<bool, AllocError> {
+    index.reserve(6)?;
     index.leave_all(cells, &inner());
-    true
+    Ok(true)
 }
 
-fn leave_nowhere(index: &mut Index, cells: &[Slot]) -> bool {
+fn leave_nowhere(index: &mut Index, cells: &Cells) -> bool {
     index.leave_all(cells, &nowhere());
     true
 }
 
-fn leave_at(index: &mut Index, cells: &[Slot], x: u32) -> bool {
+fn leave_at(index: &mut Index, cells: &Cells, x: u32) -> Result<bool, AllocError> {
+    index.reserve(1)?;
     index.leave_all(cells, &at(x));
-    true
+    Ok(true)
 }
 
+/// Shares the index with a copy.
 fn keep_copy(indexed: &mut Indexed) -> Result<bool, AllocError> {
+    indexed.index.share();
     indexed.copy = indexed.index.clone()?;
     Ok(true)
 }
 
-pub(crate) fn holds(index: &Index, cells: &[Slot], key: &[u8]) -> bool {
+pub(crate) fn holds(index: &Index, cells: &Cells, key: &[u8]) -> bool {
     index.holds(cells, key)
 }
 
 /// Whether an index finds these keys and no others.
-fn finds(index: &Index, cells: &[Slot], keys: &[u8]) -> bool {
+fn finds(index: &Index, cells: &Cells, keys: &[u8]) -> bool {
     let mut right = true;
     for key in 0..100u8 {
         if holds(index, cells, &[key]) != keys.contains(&key) {
@@ -248,7 +253,7 @@ fn keys_of(alloc: Global, bytes: &[u8]) -> Result<Vec<Bytes>, AllocError> {
 fn accepts(
     alloc: Global,
     index: &Index,
-    cells: &[Slot],
+    cells: &Cells,
     key: u8,
     more: &[u8],
 ) -> Result<bool, AllocError> {
@@ -258,7 +263,7 @@ fn accepts(
 fn accepts_beside_first(
     alloc: Global,
     index: &Index,
-    cells: &[Slot],
+    cells: &Cells,
     key: u8,
     more: &[u8],
 ) -> Result<bool, AllocError> {
@@ -273,7 +278,7 @@ fn accepts_beside_first(
 fn accepts_beside_at(
     alloc: Global,
     index: &Index,
-    cells: &[Slot],
+    cells: &Cells,
     x: u32,
     key: u8,
     more: &[u8],
@@ -287,12 +292,12 @@ fn answer(alloc: Global, indexed: &mut Indexed, step: Step) -> Result<bool, Allo
     match step {
         Step::Put(x, cell) => put(alloc, cells, x, cell),
         Step::Enter(x) => enter(index, cells, x),
-        Step::Leave(x) => Ok(leave(index, cells, x)),
+        Step::Leave(x) => leave(index, cells, x),
         Step::EnterSome => enter_some(index, cells),
-        Step::LeaveSome => Ok(leave_some(index, cells)),
-        Step::LeaveInner => Ok(leave_inner(index, cells)),
+        Step::LeaveSome => leave_some(index, cells),
+        Step::LeaveInner => leave_inner(index, cells),
         Step::LeaveNowhere => Ok(leave_nowhere(index, cells)),
-        Step::LeaveAt(x) => Ok(leave_at(index, cells, x)),
+        Step::LeaveAt(x) => leave_at(index, cells, x),
         Step::KeepCopy => keep_copy(indexed),
         Step::Holds(key) => Ok(holds(index, cells, key)),
         Step::Finds(keys) => Ok(finds(index, cells, keys)),
@@ -320,9 +325,9 @@ fn count_met_rows(alloc: Global, indexed: &mut Indexed, rows: &[Row]) -> Result<
 }
 
 fn index_cells(alloc: Global, kind: KeyKind, cells: &[Cell]) -> Result<Box<Indexed>, AllocError> {
-    let cells = slots_of(alloc, cells)?;
+    let cells = cells_of(alloc, cells)?;
     let index_of_cells = index(alloc, kind, &cells)?;
-    let copy = index(alloc, kind, &[])?;
+    let copy = index(alloc, kind, &cells_of(alloc, &[])?)?;
     Ok(Box::new(
         alloc,
         Indexed {

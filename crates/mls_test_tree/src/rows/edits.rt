@@ -1,6 +1,6 @@
 //! Edits of a tree by the rows of tests. They promise nothing, and answer numbers.
 
-use crate::rows::trees::{copy_of, leaf, member};
+use crate::rows::trees::{committed, copy_of, member};
 use mls_leaf::{Bytes, LeafNode, LeafSource};
 use mls_tree::{Hash, PublicTree, TreeError};
 use std::alloc::{AllocError, Global};
@@ -80,10 +80,22 @@ fn path_hash(tree: &mut PublicTree, i: u32, keys: Vec<Bytes>) -> Result<Vec<u8>,
     tree.path_parent_hash(i, &keys)
 }
 
-/// The leaf with this key of a commit with this parent hash.
-fn committed_leaf(alloc: Global, key: u8, hash: Vec<u8>) -> Result<LeafNode, AllocError> {
-    let parent_hash = Bytes::from_vec(hash);
-    leaf(alloc, key, LeafSource::Commit { parent_hash })
+/// The leaf with this key of a commit with this parent hash, in a box.
+fn committed_leaf(alloc: Global, key: u8, hash: Vec<u8>) -> Result<Box<LeafNode>, AllocError> {
+    let leaf = committed(alloc, key, hash)?;
+    Ok(Box::new(alloc, leaf)?)
+}
+
+/// The parent hash of member i's path, which has one key of this byte and length.
+fn hash_for(
+    alloc: Global,
+    tree: &mut PublicTree,
+    i: u32,
+    key: (u8, usize),
+) -> Result<Vec<u8>, TreeError> {
+    let (byte, length) = key;
+    let keys = keys_of(alloc, &[byte], length)?;
+    path_hash(tree, i, keys)
 }
 
 /// The leaf with the key `own` of a commit by member i, whose path has one key of this byte and length.
@@ -93,20 +105,18 @@ fn committed_leaf_for(
     i: u32,
     own: u8,
     key: (u8, usize),
-) -> Result<LeafNode, TreeError> {
-    let (byte, length) = key;
-    let keys = keys_of(alloc, &[byte], length)?;
-    let hash = path_hash(tree, i, keys)?;
+) -> Result<Box<LeafNode>, TreeError> {
+    let hash = hash_for(alloc, tree, i, key)?;
     Ok(committed_leaf(alloc, own, hash)?)
 }
 
 fn merge_path(
     tree: &mut PublicTree,
     i: u32,
-    leaf: LeafNode,
+    leaf: Box<LeafNode>,
     keys: Vec<Bytes>,
 ) -> Result<(), TreeError> {
-    tree.merge_path(i, leaf, keys)
+    tree.merge_path(i, Box::into_inner(leaf), keys)
 }
 
 /// Merges member i's path with a key of this length for each byte.
@@ -114,7 +124,7 @@ fn merge_keys(
     alloc: Global,
     tree: &mut PublicTree,
     i: u32,
-    leaf: LeafNode,
+    leaf: Box<LeafNode>,
     bytes: &[u8],
     length: usize,
 ) -> Result<Vec<u64>, TreeError> {
@@ -139,6 +149,25 @@ fn hash_length(leaf: &LeafNode) -> u64 {
         LeafSource::Commit { parent_hash } => parent_hash.as_slice().len() as u64,
         _ => 0,
     }
+}
+
+/// Merges member i's path with these keys of one byte, whose leaf has the key `own` and the path's parent hash.
+pub(crate) fn merge_all(
+    alloc: Global,
+    tree: &mut PublicTree,
+    i: u32,
+    own: u8,
+    keys: &[u8],
+) -> Result<Vec<u64>, TreeError> {
+    let hash = path_hash(tree, i, keys_of(alloc, keys, 1)?)?;
+    let leaf = committed_leaf(alloc, own, hash)?;
+    merge_keys(alloc, tree, i, leaf, keys, 1)
+}
+
+/// Lets later copies share what the tree has.
+pub(crate) fn share(alloc: Global, tree: &mut PublicTree) -> Result<Vec<u64>, TreeError> {
+    tree.share();
+    Ok(Vec::new(alloc))
 }
 
 pub(crate) fn merge_long(
@@ -176,14 +205,26 @@ pub(crate) fn merge_given(
 fn follow_path(
     tree: &mut PublicTree,
     i: u32,
-    leaf: LeafNode,
+    leaf: Box<LeafNode>,
     keys: Vec<Bytes>,
 ) -> Result<Hash, TreeError> {
     let _tree_hash = tree.tree_hash();
-    let path = tree.prepare_path(i, leaf, keys)?;
+    let path = tree.prepare_path(i, Box::into_inner(leaf), keys)?;
     let told = path.tree_hash();
     tree.follow_path(path)?;
     Ok(told)
+}
+
+/// Prepares member i's path of one parent and follows it.
+fn follow_key(
+    alloc: Global,
+    tree: &mut PublicTree,
+    i: u32,
+    leaf: Box<LeafNode>,
+    key: u8,
+) -> Result<Hash, TreeError> {
+    let keys = keys_of(alloc, &[key], 1)?;
+    follow_path(tree, i, leaf, keys)
 }
 
 fn tree_hash(tree: &mut PublicTree) -> Hash {
@@ -192,6 +233,25 @@ fn tree_hash(tree: &mut PublicTree) -> Hash {
 
 fn hashes_done(tree: &PublicTree) -> u64 {
     tree.hashes_done()
+}
+
+fn copied(alloc: Global, leaf: &LeafNode) -> Result<Box<LeafNode>, TreeError> {
+    let copy = leaf.clone()?;
+    Ok(Box::new(alloc, copy)?)
+}
+
+/// The tree hash of a copy which the path is merged into.
+fn merged_hash(
+    alloc: Global,
+    tree: &PublicTree,
+    i: u32,
+    leaf: &LeafNode,
+    key: u8,
+) -> Result<Hash, TreeError> {
+    let leaf = copied(alloc, leaf)?;
+    let mut copy = copy_of(alloc, tree)?;
+    merge_keys(alloc, &mut copy, i, leaf, &[key], 1)?;
+    Ok(tree_hash(&mut copy))
 }
 
 /// Prepares member i's path of one parent and follows it, and merges it into a copy.
@@ -203,11 +263,10 @@ pub(crate) fn follow(
     key: u8,
 ) -> Result<Vec<u64>, TreeError> {
     let leaf = committed_leaf_for(alloc, tree, i, own, (key, 1))?;
-    let mut copy = copy_of(alloc, tree)?;
-    merge_keys(alloc, &mut copy, i, leaf.clone()?, &[key], 1)?;
+    let merged = merged_hash(alloc, tree, i, &leaf, key)?;
     let before = hashes_done(tree);
-    let told = follow_path(tree, i, leaf, keys_of(alloc, &[key], 1)?)?;
-    let same = told == tree_hash(tree) && told == tree_hash(&mut copy);
+    let told = follow_key(alloc, tree, i, leaf, key)?;
+    let same = told == tree_hash(tree) && told == merged;
     let made = hashes_done(tree).saturating_sub(before);
     Ok(Vec::from_slice(alloc, &[u64::from(same), made])?)
 }

@@ -49,11 +49,11 @@ fn sent_bytes(alloc: Global, tree: &PublicTree) -> Result<Vec<u8>, AllocError> {
     value_of(nodes.encode(alloc))
 }
 
-/// The nodes that were sent, of a small tree.
+/// The nodes that were sent, of a tree that isn't too large.
 fn nodes_in(alloc: Global, bytes: &[u8]) -> Result<Vec<Slot>, AllocError>
     ensures { IfOk result (λ nodes. AreShort nodes.items) }
 {
-    if bytes.len() > 1000 {
+    if bytes.len() > 1_000_000 {
         return Err(AllocError);
     }
     match RatchetTree::decode(alloc, bytes) {
@@ -82,10 +82,17 @@ fn refusal(tree: &mut PublicTree) -> Result<u8, TreeError>
     }
 }
 
+/// What a tree that was sent is refused with in the group "g", or 0.
+fn refusal_of_sent(alloc: Global, bytes: &[u8]) -> Result<u8, TreeError> {
+    let mut taken = tree_in(alloc, bytes)?;
+    let refused = refusal(&mut taken);
+    drop(taken);
+    refused
+}
+
 /// What the tree is refused with in the group "g", or 0, once its nodes are sent and taken in.
 pub(crate) fn check(alloc: Global, tree: &PublicTree) -> Result<Vec<u64>, TreeError> {
     let bytes = sent_bytes(alloc, tree)?;
-    let mut taken = tree_in(alloc, &bytes)?;
-    let refused = refusal(&mut taken)?;
+    let refused = refusal_of_sent(alloc, &bytes)?;
     number(alloc, u64::from(refused))
 }

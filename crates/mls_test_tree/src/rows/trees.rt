@@ -6,23 +6,43 @@ use mls_tree::{PublicTree, TreeError};
 use mls_tree_slot::Slot;
 use std::alloc::{AllocError, Global};
 
+fn bytes(alloc: Global, list: &[u8]) -> Result<Bytes, AllocError> {
+    Ok(Bytes::from_slice(alloc, list)?)
+}
+
 fn byte(alloc: Global, b: u8) -> Result<Bytes, AllocError> {
-    let mut bytes = Vec::new(alloc);
-    bytes.push(b)?;
-    Ok(Bytes::from_vec(bytes))
+    bytes(alloc, &[b])
 }
 
 fn numbers(alloc: Global) -> Items<u16> {
     Items::from_vec(Vec::new(alloc))
 }
 
-/// A leaf with this byte as its encryption key.
-pub(crate) fn leaf(alloc: Global, key: u8, source: LeafSource) -> Result<LeafNode, AllocError> {
-    Ok(LeafNode {
-        encryption_key: byte(alloc, key)?,
-        signature_key: byte(alloc, key)?,
+/// The parts of a leaf that are byte strings, all of the same bytes.
+#[derive(Drop)]
+struct LeafParts {
+    encryption_key: Bytes,
+    signature_key: Bytes,
+    identity: Bytes,
+    signature: Bytes,
+}
+
+fn parts(alloc: Global, key: &[u8]) -> Result<LeafParts, AllocError> {
+    Ok(LeafParts {
+        encryption_key: bytes(alloc, key)?,
+        signature_key: bytes(alloc, key)?,
+        identity: bytes(alloc, key)?,
+        signature: bytes(alloc, key)?,
+    })
+}
+
+/// The leaf of these parts.
+fn leaf_of(alloc: Global, parts: LeafParts, source: LeafSource) -> LeafNode {
+    LeafNode {
+        encryption_key: parts.encryption_key,
+        signature_key: parts.signature_key,
         credential: Credential {
-            identity: byte(alloc, key)?,
+            identity: parts.identity,
         },
         capabilities: Capabilities {
             versions: numbers(alloc),
@@ -32,13 +52,21 @@ pub(crate) fn leaf(alloc: Global, key: u8, source: LeafSource) -> Result<LeafNod
             credentials: numbers(alloc),
         },
         source,
-        signature: byte(alloc, key)?,
-    })
+        signature: parts.signature,
+    }
+}
+
+/// A leaf with this byte as its encryption key, of a commit with this parent hash.
+pub(crate) fn committed(alloc: Global, key: u8, hash: Vec<u8>) -> Result<LeafNode, AllocError> {
+    let parent_hash = Bytes::from_vec(hash);
+    let parts = parts(alloc, &[key])?;
+    Ok(leaf_of(alloc, parts, LeafSource::Commit { parent_hash }))
 }
 
 /// A leaf with this byte as its encryption key, which no commit made.
 pub(crate) fn member(alloc: Global, key: u8) -> Result<LeafNode, AllocError> {
-    leaf(alloc, key, LeafSource::Update)
+    let parts = parts(alloc, &[key])?;
+    Ok(leaf_of(alloc, parts, LeafSource::Update))
 }
 
 /// A tree in a box, so that the proof of a test, which drops it at each call that may fail, goes into none of its
@@ -64,6 +92,16 @@ fn member_slot(alloc: Global, key: u8) -> Result<Slot, AllocError> {
     Slot::of(alloc, Node::Leaf(member(alloc, key)?))
 }
 
+/// Puts a leaf behind other nodes, of a member with the key 1 or blank.
+fn put_leaf(alloc: Global, nodes: &mut Vec<Slot>, is_taken: bool) -> Result<(), AllocError> {
+    if is_taken {
+        nodes.push(member_slot(alloc, 1)?)?;
+    } else {
+        nodes.push(Slot::blank())?;
+    }
+    Ok(())
+}
+
 /// The nodes of a tree, up to the last leaf that is taken: its leaves as listed.
 fn nodes_of(alloc: Global, leaves: &[bool]) -> Result<Vec<Slot>, AllocError> {
     let mut nodes = Vec::new(alloc);
@@ -71,12 +109,7 @@ fn nodes_of(alloc: Global, leaves: &[bool]) -> Result<Vec<Slot>, AllocError> {
         if !nodes.is_empty() {
             nodes.push(Slot::blank())?;
         }
-        let leaf = if *is_taken {
-            member_slot(alloc, 1)?
-        } else {
-            Slot::blank()
-        };
-        nodes.push(leaf)?;
+        put_leaf(alloc, &mut nodes, *is_taken)?;
     }
     Ok(nodes)
 }
@@ -102,6 +135,31 @@ fn shared_nodes(alloc: Global, leaves: u32) -> Result<Vec<Slot>, AllocError> {
 /// The tree of so many leaves, all of one member with the key 0.
 pub(crate) fn all_taken(alloc: Global, leaves: u32) -> Result<Box<PublicTree>, TreeError> {
     tree_of(alloc, shared_nodes(alloc, leaves)?)
+}
+
+/// The place of leaf i of a large tree: each taken leaf has keys of its own, of two bytes.
+fn slot_of_large_tree(alloc: Global, i: u16) -> Result<Slot, AllocError> {
+    if i >= 2000 && i < 2048 {
+        return Ok(Slot::blank());
+    }
+    let parts = parts(alloc, &i.to_be_bytes())?;
+    Slot::of(alloc, Node::Leaf(leaf_of(alloc, parts, LeafSource::Update)))
+}
+
+fn nodes_of_large_tree(alloc: Global) -> Result<Vec<Slot>, AllocError> {
+    let mut nodes = Vec::new(alloc);
+    for i in 0..2050u16 {
+        if i > 0 {
+            nodes.push(Slot::blank())?;
+        }
+        nodes.push(slot_of_large_tree(alloc, i)?)?;
+    }
+    Ok(nodes)
+}
+
+/// Members at the first 2,000 leaves of 4,096, and at leaves 2,048 and 2,049, each with keys of its own.
+pub(crate) fn large_tree(alloc: Global) -> Result<Box<PublicTree>, TreeError> {
+    tree_of(alloc, nodes_of_large_tree(alloc)?)
 }
 
 /// A parent with the key 9 that lists these leaves.

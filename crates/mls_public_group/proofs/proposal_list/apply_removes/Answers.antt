@@ -13,7 +13,7 @@ returns-in_err-remove c =
     let t = term c.loop-leaf.tree in
     let k = c.loop-leaf.leaf-index in
     rw (p.1, p.2) (λ other. sym c.loop-leaf.invariant ∙ ap (apply_removes t) (here_number c.args.leaves.now k c.loop-leaf-test.true)
-    ∙ removes_fail t _ (drop (k + 1) c.args.leaves.now) (number_of_tree c.in_err-remove.field-0.0) c.in_err-remove.ensures.answer.1)
+    ∙ removes_fail t _ (drop (k + 1) c.args.leaves.now) (number_of_tree c.in_err-remove.field-0.0) (c.in_err-remove.ensures.answer.1 other))
 
 pub loop-leaf-preserved : goal.loop-leaf-preserved
 loop-leaf-preserved c =

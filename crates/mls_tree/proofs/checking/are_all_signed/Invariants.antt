@@ -8,5 +8,5 @@ use Rattle.mls_tree.proofs.checking.are_all_signed.Given as goal
 
 abbrev pub invariant-loop-i : goal.invariant-loop-i
 invariant-loop-i g l =
-    rest (is_signed g.S.Suite.crypto l.group_id) (leaf_of (term_of l.height l.nodes)) l.i (length l.nodes / 2 + 1 - l.i)
-    ≡ all_members (is_signed g.S.Suite.crypto l.group_id) 0 (term_of l.height l.nodes)
+    rest (is_signed g.S.Suite.crypto l.group_id) (leaf_of (term_of l.height l.cells.nodes)) l.i (length l.cells.nodes / 2 + 1 - l.i)
+    ≡ all_members (is_signed g.S.Suite.crypto l.group_id) 0 (term_of l.height l.cells.nodes)

@@ -1,13 +1,9 @@
-use Rattle.std.proofs.Common.{◌∙◌, ap}
-use Rattle.std.proofs.lemmas.List.{with_items_is}
-use Rattle.mls_tree_model.specs.Edits.{put}
-use Rattle.mls_tree_model.specs.Arrays.{term_of, in_order}
-use Rattle.mls_tree_array.proofs.StandingLaws.{stands_for-put}
+use Rattle.mls_tree.proofs.CellEdits.{put_fits, leaf_put, on_ok}
 use Rattle.mls_tree.proofs.edits.put.Goals as goal
 
-pub returns : goal.returns
-returns c =
-    stands_for-put c.args.height 0 c.args.i c.args.leaf c.args.nodes.now.items _
-    (with_items_is c.args.nodes.now c.put.new.nodes (c.put.auto.nodes ∙ c.deref_mut.ensures.len)
-    ∙ c.put.ensures
-    ∙ ap (λ xs. in_order (put 0 (term_of c.args.height xs) c.args.i c.args.leaf)) c.deref_mut.ensures.value)
+pub put-requires : goal.put-requires
+put-requires c = put_fits c.args.height c.args.i c.args.cells.now _ c.requires.stands c.args.leaf (rw c.of.ensures at c.in_ok-changes.ensures)
+
+pub returns-clause-ok : goal.returns-clause-ok
+returns-clause-ok c =
+    on_ok c.put.result _ _ (λ puts. leaf_put c.args.height c.args.i c.args.cells.now _ c.requires.stands _ puts c.requires.long c.args.leaf (rw c.of.ensures at c.in_ok-changes.ensures)) c.put.ensures.ok

@@ -1,20 +1,69 @@
-use Rattle.std.proofs.Common.{◌≡◌, ◌+◌, ◌-◌, ◌<◌, length, refl, sym, ◌∙◌, ap, subst, arith, add-one}
+use Rattle.std.proofs.Common.{◌≡◌, ◌+◌, ◌-◌, [], get_or, length, refl, sym, ◌∙◌, ap, subst, arith, add-one}
 use Rattle.std.specs.List.{All, concat}
 use Rattle.std.specs.Vec.{vec_len}
 use Rattle.std.proofs.lemmas.List.Elements.{All-take}
 use Rattle.mls_tree_index.specs.declared.blocks.Spot.{Spot}
-use Rattle.mls_tree_index.specs.Blocks.{AreBlocks, IsOpenAt, IsSpare, blocks_of, place_in, place_of}
-use Rattle.mls_tree_index.proofs.BlockLaws.{full_at, split_blocks, split_here, split_numbers, split_there, place_there}
+use Rattle.mls_tree_index.specs.Block.{IsSpare}
+use Rattle.mls_tree_index.specs.Blocks.{AreBlocks, IsOpenAt, blocks_of, place_in, place_of}
+use Rattle.mls_tree_index.proofs.BlockLaws.{count_of, place_here, read_at, split_blocks, split_here, split_numbers, split_there, place_there}
+use Rattle.mls_tree_index.proofs.RoomLaws.{least_at}
 use Rattle.mls_tree_index.proofs.blocks.make_way.Goals as goal
+
+pub returns-in_default-clause-spot : goal.returns-in_default-clause-spot
+returns-in_default-clause-spot c =
+    let vs = c.args.list.now.items in
+    let b = c.args.spot.block in
+    let lt = c.requires.spot.block in
+    let count = count_of vs in
+    let size = ap length (c.numbers.ensures.numbers ∙ read_at vs b c.index.result.now (omega arith) c.index.ensures) in
+    let few = c.numbers.ensures.few in
+    let ge = c.if-numbers-lt-BLOCK_SIZE.false in
+    let full : length (get_or (blocks_of vs) b []) ≡ 512 = omega arith in
+    let least = least_at (blocks_of vs) b lt in
+    let some = c.requires.room in
+    let none = c.in_default.ensures.cases in
+    absurd (omega arith)
+
+pub returns-then-spot-le-HALF_SIZE-clause-free : goal.returns-then-spot-le-HALF_SIZE-clause-free
+returns-then-spot-le-HALF_SIZE-clause-free c =
+    let vs = c.args.list.now.items in
+    let b = c.args.spot.block in
+    let lt = c.requires.spot.block in
+    let count = count_of vs in
+    let size = ap length (c.numbers.ensures.numbers ∙ read_at vs b c.index.result.now (omega arith) c.index.ensures) in
+    let few = c.numbers.ensures.few in
+    let ge = c.if-numbers-lt-BLOCK_SIZE.false in
+    let full : length (get_or (blocks_of vs) b []) ≡ 512 = omega arith in
+    let least = least_at (blocks_of vs) b lt in
+    let less = c.pop.ensures.cases in
+    let more = c.in-Some.ensures.cases in
+    omega arith
+
+pub returns-clause-free : goal.returns-clause-free
+returns-clause-free c =
+    let vs = c.args.list.now.items in
+    let b = c.args.spot.block in
+    let lt = c.requires.spot.block in
+    let count = count_of vs in
+    let size = ap length (c.numbers.ensures.numbers ∙ read_at vs b c.index.result.now (omega arith) c.index.ensures) in
+    let few = c.numbers.ensures.few in
+    let ge = c.if-numbers-lt-BLOCK_SIZE.false in
+    let full : length (get_or (blocks_of vs) b []) ≡ 512 = omega arith in
+    let least = least_at (blocks_of vs) b lt in
+    let less = c.pop.ensures.cases in
+    let more = c.in-Some.ensures.cases in
+    omega arith
 
 pub returns-then-spot-le-HALF_SIZE-clause-kept : goal.returns-then-spot-le-HALF_SIZE-clause-kept
 returns-then-spot-le-HALF_SIZE-clause-kept c =
     let vs = c.args.list.now.items in
     let b = c.args.spot.block in
     let lt = c.requires.spot.block in
-    let size = c.len.ensures in
-    let ge = c.if-len-lt-BLOCK_SIZE.false in
-    let full = full_at vs b c.index.result.now lt c.index.ensures c.requires.kept.each (omega arith) in
+    let count = count_of vs in
+    let size = ap length (c.numbers.ensures.numbers ∙ read_at vs b c.index.result.now (omega arith) c.index.ensures) in
+    let few = c.numbers.ensures.few in
+    let ge = c.if-numbers-lt-BLOCK_SIZE.false in
+    let full : length (get_or (blocks_of vs) b []) ≡ 512 = omega arith in
     let kept = c.requires.kept in
     let long = c.split_block.ensures.len in
     let wide = c.split_block.ensures.capacity in
@@ -24,7 +73,6 @@ returns-then-spot-le-HALF_SIZE-clause-kept c =
     let room = kept.room in
     record {
       blocks = subst AreBlocks (sym c.split_block.ensures.blocks) (split_blocks (blocks_of vs) b lt full kept.blocks);
-      each = c.split_block.ensures.each kept.each;
       spare = subst (All IsSpare) (sym c.pop.ensures.rest) (All-take IsSpare (vec_len c.args.spares.now - 1) c.args.spares.now.items kept.spare);
       room = omega arith;
     }
@@ -34,9 +82,11 @@ returns-then-spot-le-HALF_SIZE-clause-numbers c =
     let vs = c.args.list.now.items in
     let b = c.args.spot.block in
     let lt = c.requires.spot.block in
-    let size = c.len.ensures in
-    let ge = c.if-len-lt-BLOCK_SIZE.false in
-    let full = full_at vs b c.index.result.now lt c.index.ensures c.requires.kept.each (omega arith) in
+    let count = count_of vs in
+    let size = ap length (c.numbers.ensures.numbers ∙ read_at vs b c.index.result.now (omega arith) c.index.ensures) in
+    let few = c.numbers.ensures.few in
+    let ge = c.if-numbers-lt-BLOCK_SIZE.false in
+    let full : length (get_or (blocks_of vs) b []) ≡ 512 = omega arith in
     ap concat c.split_block.ensures.blocks ∙ split_numbers (blocks_of vs) b lt full
 
 pub returns-then-spot-le-HALF_SIZE-clause-spot : goal.returns-then-spot-le-HALF_SIZE-clause-spot
@@ -44,19 +94,35 @@ returns-then-spot-le-HALF_SIZE-clause-spot c =
     let vs = c.args.list.now.items in
     let b = c.args.spot.block in
     let lt = c.requires.spot.block in
-    let size = c.len.ensures in
-    let ge = c.if-len-lt-BLOCK_SIZE.false in
-    let full = full_at vs b c.index.result.now lt c.index.ensures c.requires.kept.each (omega arith) in
+    let count = count_of vs in
+    let size = ap length (c.numbers.ensures.numbers ∙ read_at vs b c.index.result.now (omega arith) c.index.ensures) in
+    let few = c.numbers.ensures.few in
+    let ge = c.if-numbers-lt-BLOCK_SIZE.false in
+    let full : length (get_or (blocks_of vs) b []) ≡ 512 = omega arith in
     subst (λ bs. IsOpenAt bs c.args.spot) (sym c.split_block.ensures.blocks) (split_here (blocks_of vs) b lt full c.args.spot refl c.if-spot-le-HALF_SIZE.true)
+
+pub returns-then-spot-le-HALF_SIZE-clause-place : goal.returns-then-spot-le-HALF_SIZE-clause-place
+returns-then-spot-le-HALF_SIZE-clause-place c =
+    let vs = c.args.list.now.items in
+    let b = c.args.spot.block in
+    let lt = c.requires.spot.block in
+    let count = count_of vs in
+    let size = ap length (c.numbers.ensures.numbers ∙ read_at vs b c.index.result.now (omega arith) c.index.ensures) in
+    let few = c.numbers.ensures.few in
+    let ge = c.if-numbers-lt-BLOCK_SIZE.false in
+    let full : length (get_or (blocks_of vs) b []) ≡ 512 = omega arith in
+    ap (λ bs. place_of bs c.args.spot) c.split_block.ensures.blocks ∙ place_here (blocks_of vs) b lt full c.args.spot refl
 
 pub returns-clause-kept : goal.returns-clause-kept
 returns-clause-kept c =
     let vs = c.args.list.now.items in
     let b = c.args.spot.block in
     let lt = c.requires.spot.block in
-    let size = c.len.ensures in
-    let ge = c.if-len-lt-BLOCK_SIZE.false in
-    let full = full_at vs b c.index.result.now lt c.index.ensures c.requires.kept.each (omega arith) in
+    let count = count_of vs in
+    let size = ap length (c.numbers.ensures.numbers ∙ read_at vs b c.index.result.now (omega arith) c.index.ensures) in
+    let few = c.numbers.ensures.few in
+    let ge = c.if-numbers-lt-BLOCK_SIZE.false in
+    let full : length (get_or (blocks_of vs) b []) ≡ 512 = omega arith in
     let kept = c.requires.kept in
     let long = c.split_block.ensures.len in
     let wide = c.split_block.ensures.capacity in
@@ -66,7 +132,6 @@ returns-clause-kept c =
     let room = kept.room in
     record {
       blocks = subst AreBlocks (sym c.split_block.ensures.blocks) (split_blocks (blocks_of vs) b lt full kept.blocks);
-      each = c.split_block.ensures.each kept.each;
       spare = subst (All IsSpare) (sym c.pop.ensures.rest) (All-take IsSpare (vec_len c.args.spares.now - 1) c.args.spares.now.items kept.spare);
       room = omega arith;
     }
@@ -76,9 +141,11 @@ returns-clause-numbers c =
     let vs = c.args.list.now.items in
     let b = c.args.spot.block in
     let lt = c.requires.spot.block in
-    let size = c.len.ensures in
-    let ge = c.if-len-lt-BLOCK_SIZE.false in
-    let full = full_at vs b c.index.result.now lt c.index.ensures c.requires.kept.each (omega arith) in
+    let count = count_of vs in
+    let size = ap length (c.numbers.ensures.numbers ∙ read_at vs b c.index.result.now (omega arith) c.index.ensures) in
+    let few = c.numbers.ensures.few in
+    let ge = c.if-numbers-lt-BLOCK_SIZE.false in
+    let full : length (get_or (blocks_of vs) b []) ≡ 512 = omega arith in
     ap concat c.split_block.ensures.blocks ∙ split_numbers (blocks_of vs) b lt full
 
 pub returns-clause-spot : goal.returns-clause-spot
@@ -86,9 +153,11 @@ returns-clause-spot c =
     let vs = c.args.list.now.items in
     let b = c.args.spot.block in
     let lt = c.requires.spot.block in
-    let size = c.len.ensures in
-    let ge = c.if-len-lt-BLOCK_SIZE.false in
-    let full = full_at vs b c.index.result.now lt c.index.ensures c.requires.kept.each (omega arith) in
+    let count = count_of vs in
+    let size = ap length (c.numbers.ensures.numbers ∙ read_at vs b c.index.result.now (omega arith) c.index.ensures) in
+    let few = c.numbers.ensures.few in
+    let ge = c.if-numbers-lt-BLOCK_SIZE.false in
+    let full : length (get_or (blocks_of vs) b []) ≡ 512 = omega arith in
     let within = c.requires.spot.offset in
     let next : Spot = record { block = b + 1; offset = c.args.spot.offset - 256 } in
     subst (λ bs. IsOpenAt bs next) (sym c.split_block.ensures.blocks) (split_there (blocks_of vs) b lt full next (add-one b) (omega arith))
@@ -98,9 +167,11 @@ returns-clause-place c =
     let vs = c.args.list.now.items in
     let b = c.args.spot.block in
     let lt = c.requires.spot.block in
-    let size = c.len.ensures in
-    let ge = c.if-len-lt-BLOCK_SIZE.false in
-    let full = full_at vs b c.index.result.now lt c.index.ensures c.requires.kept.each (omega arith) in
+    let count = count_of vs in
+    let size = ap length (c.numbers.ensures.numbers ∙ read_at vs b c.index.result.now (omega arith) c.index.ensures) in
+    let few = c.numbers.ensures.few in
+    let ge = c.if-numbers-lt-BLOCK_SIZE.false in
+    let full : length (get_or (blocks_of vs) b []) ≡ 512 = omega arith in
     let past = c.if-spot-le-HALF_SIZE.false in
     let next : Spot = record { block = b + 1; offset = c.args.spot.offset - 256 } in
     let same : (c.args.spot.offset - 256) + 256 ≡ c.args.spot.offset = omega arith in

@@ -6,4 +6,4 @@ use Rattle.mls_tree_index.proofs.entries.is_again.Goals as goal
 pub returns-then-last-next : goal.returns-then-last-next
 returns-then-last-next c =
     let first = c.if-place-eq0.false in
-    new_by_fronts (key_in c.args.kind c.args.cells.now) c.args.entries.now c.requires.listed c.args.place (omega arith) c.requires.within _ _ c.if-last-next.true
+    new_by_fronts (key_in c.args.kind c.args.cells.now.nodes) c.args.entries.now c.requires.listed c.args.place (omega arith) c.requires.within _ _ c.if-last-next.true

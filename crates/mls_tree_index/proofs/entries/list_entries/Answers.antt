@@ -12,7 +12,7 @@ loop-x-init c =
     record {
       few = omega arith;
       room = omega arith;
-      below = subst (AreBelow (key_in c.args.kind c.args.cells.now) 0) (sym c.in_ok-entries.ensures.items) (below_none (key_in c.args.kind c.args.cells.now));
+      below = subst (AreBelow (key_in c.args.kind c.args.cells.now.nodes) 0) (sym c.in_ok-entries.ensures.items) (below_none (key_in c.args.kind c.args.cells.now.nodes));
     }
 
 pub loop-x-preserved : goal.loop-x-preserved
@@ -20,7 +20,7 @@ loop-x-preserved c =
     let before = c.loop-x.invariant in
     let few = before.few in
     let room = before.room in
-    let at = key_in c.args.kind c.args.cells.now in
+    let at = key_in c.args.kind c.args.cells.now.nodes in
     elim c.match-key_in.branch [
       | in-Some w ↦
           let len = w.push_reserved.ensures.len in
@@ -45,4 +45,4 @@ loop-x-preserved c =
 pub returns : goal.returns
 returns c =
     let past = c.loop-x-test.false in
-    below_all (key_in c.args.kind c.args.cells.now) c.loop-x.x c.loop-x.entries.items (past_cells c.args.kind c.args.cells.now c.loop-x.x (omega arith)) c.loop-x.invariant.below
+    below_all (key_in c.args.kind c.args.cells.now.nodes) c.loop-x.x c.loop-x.entries.items (past_cells c.args.kind c.args.cells.now.nodes c.loop-x.x (omega arith)) c.loop-x.invariant.below

@@ -8,10 +8,10 @@ use Rattle.mls_tree_index.proofs.SortLaws.{entries_moved, ascends}
 use Rattle.mls_tree_index.proofs.entries.sort_entries.Goals as goal
 
 pub returns-clause-entries : goal.returns-clause-entries
-returns-clause-entries c = entries_moved (key_in c.args.kind c.args.cells.now) _ _ c.sort_unstable_by.ensures.permutation c.in_ok-entries.ensures
+returns-clause-entries c = entries_moved (key_in c.args.kind c.args.cells.now.nodes) _ _ c.sort_unstable_by.ensures.permutation c.in_ok-entries.ensures
 
 pub returns-clause-ascend : goal.returns-clause-ascend
 returns-clause-ascend c =
-    let at = key_in c.args.kind c.args.cells.now in
+    let at = key_in c.args.kind c.args.cells.now.nodes in
     ascends at _ (entries_moved at _ _ c.sort_unstable_by.ensures.permutation c.in_ok-entries.ensures)
     (c.sort_unstable_by.ensures.sorted _ (ranks_by front_total (fronted at)) (always_returns_same _ _ _ (λ a r f k. search rules)))

@@ -7,8 +7,8 @@ invariant-loop-start l = record {
   known : l.known ≤ l.start;
   order : l.start ≤ l.end;
   within : l.end ≤ length l.numbers;
-  low : IsLowBefore l.kind l.cells l.key l.x l.numbers l.known l.start;
-  high : IsHighAt l.kind l.cells l.key l.x l.numbers l.end;
+  low : IsLowBefore l.kind l.cells.nodes l.key l.x l.numbers l.known l.start;
+  high : IsHighAt l.kind l.cells.nodes l.key l.x l.numbers l.end;
 }
 
 abbrev pub decreases-loop-start : goal.decreases-loop-start

@@ -6,6 +6,6 @@ pub returns : goal.returns
 returns c = λ b fills is. record {
   encryption = c.enter.ensures.kind ∙ is.encryption;
   signature = c.enter-2.ensures.kind ∙ is.signature;
-  keys = c.enter.ensures.entered b c.args.cells.now (filled_without _ _ _ _ fills) is.keys;
-  clients = c.enter-2.ensures.entered b c.args.cells.now (filled_without _ _ _ _ fills) is.clients;
+  keys = c.enter.ensures.entered b c.args.cells.now.nodes (filled_without _ _ _ _ fills) is.keys;
+  clients = c.enter-2.ensures.entered b c.args.cells.now.nodes (filled_without _ _ _ _ fills) is.clients;
 }

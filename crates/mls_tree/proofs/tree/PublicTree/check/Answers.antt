@@ -16,8 +16,8 @@ returns-clause-warms g c = warmed c.args.self.now c.tree_hash-tree_hash.new.self
 
 pub returns-clause-good : goal.returns-clause-good
 returns-clause-good g c =
-    let at : term_of c.self.inside.height c.deref.result.now ≡ term c.args.self.now = ap (term_of c.self.inside.height) c.deref.ensures.value ∙ ap term c.self.view_is ∙ c.tree_hash-tree_hash.ensures.same in
-    let wide = ap width (sym at) ∙ width-term_of c.self.inside.height c.deref.result.now in
+    let at : term_of c.self.inside.height c.self.inside.cells.nodes ≡ term c.args.self.now = ap term c.self.view_is ∙ c.tree_hash-tree_hash.ensures.same in
+    let wide = ap width (sym at) ∙ width-term_of c.self.inside.height c.self.inside.cells.nodes in
     let low : 2 ^ c.self.inside.height ≤ max_leaves = pow_mono c.self.invariant.1 in
     good_checked (rules_of g.S.Suite.crypto c.args.group_id.now) _ (term c.args.self.now) at c.check.result c.check.ensures.answer c.check.ensures.rising (perfect c.args.self.now)
     (within_from max_leaves (term c.args.self.now) (omega arith))

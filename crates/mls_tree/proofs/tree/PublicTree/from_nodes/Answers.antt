@@ -1,6 +1,5 @@
-use Rattle.std.proofs.Common.{true, false, Ok, subst, ap, ◌∙◌, sym, length, arith}
+use Rattle.std.proofs.Common.{true, false, Ok, refl, subst, ap, ◌∙◌, sym, length, arith}
 use Rattle.std.proofs.lemmas.Nat.{one_shl}
-use Rattle.mls_tree.specs.IndexedKeys.{AreIndexes}
 use Rattle.mls_tree.proofs.Checked.{size_fits}
 use Rattle.mls_tree.proofs.KeptHashes.{cold_by}
 use Rattle.mls_tree.proofs.Bounding.{unknown}
@@ -78,8 +77,8 @@ returns-in_err-pad_tree-clause-outright c =
     let low = c.if-height-gt-MAX_HEIGHT.false in
     λ n h. absurd (not_refused _ _ (received c.args.nodes.items last placed c.height_for-height.result at full (omega arith)) n h)
 
-pub returns-in_err-hashes-clause-outright : goal.returns-in_err-hashes-clause-outright
-returns-in_err-hashes-clause-outright c =
+pub returns-in_err-cells-clause-outright : goal.returns-in_err-cells-clause-outright
+returns-in_err-cells-clause-outright c =
     let last = ap has_last (sym c.deref.ensures.value) ∙ sym c.has_last.ensures ∙ c.if-not-has_last.false in
     let placed = ap (alternates true) (sym c.deref-2.ensures.value) ∙ sym c.alternates.ensures ∙ c.if-not-alternates.false in
     let at = c.height_for-height.ensures.value ∙ ap height_for (c.len.ensures ∙ c.args.nodes.ok.0) in
@@ -101,10 +100,9 @@ build-requires c =
     let last = ap has_last (sym c.deref.ensures.value) ∙ sym c.has_last.ensures ∙ c.if-not-has_last.false in
     let placed = ap (alternates true) (sym c.deref-2.ensures.value) ∙ sym c.alternates.ensures ∙ c.if-not-alternates.false in
     let at = c.height_for-height.ensures.value ∙ ap height_for (c.len.ensures ∙ c.args.nodes.ok.0) in
-    let stands = stands_as c.args.nodes.items last placed c.height_for-height.result at _ c.in_ok-pad_tree.ensures.ok in
+    let stands = stands_as c.args.nodes.items last placed c.height_for-height.result at _ (ap (λ r. r.nodes) c.in_ok-cells.ensures ∙ c.in_ok-pad_tree.ensures.ok) in
     let low = c.if-height-gt-MAX_HEIGHT.false in
     let fits = size_fits c.height_for-height.result _ stands (omega arith) in
-    let same = ap length c.deref-4.ensures.value in
     omega arith
 
 pub invariant_of-result : goal.invariant_of-result
@@ -112,9 +110,10 @@ invariant_of-result c =
     let last = ap has_last (sym c.deref.ensures.value) ∙ sym c.has_last.ensures ∙ c.if-not-has_last.false in
     let placed = ap (alternates true) (sym c.deref-2.ensures.value) ∙ sym c.alternates.ensures ∙ c.if-not-alternates.false in
     let at = c.height_for-height.ensures.value ∙ ap height_for (c.len.ensures ∙ c.args.nodes.ok.0) in
-    let stands = stands_as c.args.nodes.items last placed c.height_for-height.result at _ c.in_ok-pad_tree.ensures.ok in
+    let stands = stands_as c.args.nodes.items last placed c.height_for-height.result at _ (ap (λ r. r.nodes) c.in_ok-cells.ensures ∙ c.in_ok-pad_tree.ensures.ok) in
+    let padded = stands_as c.args.nodes.items last placed c.height_for-height.result at _ c.in_ok-pad_tree.ensures.ok in
     let low = c.if-height-gt-MAX_HEIGHT.false in
-    (stands, omega arith, cold_by c.height_for-height.result _ _ _ _ c.in_ok-hashes.ensures (c.len-2.ensures ∙ c.pad_tree.new.nodes.ok.0 ∙ stands.size), unknown c.height_for-height.result _ _ (one_shl c.height_for-height.result 32 (omega arith)), subst (λ cs. AreIndexes cs c.in_ok-indexes.indexes) c.deref-4.ensures.value c.in_ok-indexes.ensures)
+    (stands, omega arith, cold_by c.height_for-height.result _ _ _ (ap (λ r. r.hashes) c.in_ok-cells.ensures) padded.size, unknown c.height_for-height.result _ _ (one_shl c.height_for-height.result 32 (omega arith)), c.in_ok-indexes.ensures)
 
 pub returns-clause-answer : goal.returns-clause-answer
 returns-clause-answer c =
@@ -123,7 +122,7 @@ returns-clause-answer c =
     let at = c.height_for-height.ensures.value ∙ ap height_for (c.len.ensures ∙ c.args.nodes.ok.0) in
     let full = ap (λ xs. is_full_width (term_of c.height_for-height.result xs)) (sym c.deref-3.ensures.value) ∙ sym c.is_full_width.ensures ∙ c.if-not-is_full_width.false in
     let low = c.if-height-gt-MAX_HEIGHT.false in
-    received c.args.nodes.items last placed c.height_for-height.result at full (omega arith) ∙ ap Ok (same_term c.args.nodes.items last placed c.height_for-height.result at _ c.in_ok-pad_tree.ensures.ok)
+    received c.args.nodes.items last placed c.height_for-height.result at full (omega arith) ∙ ap Ok (same_term c.args.nodes.items last placed c.height_for-height.result at _ (ap (λ r. r.nodes) c.in_ok-cells.ensures ∙ c.in_ok-pad_tree.ensures.ok))
 
 pub returns-clause-outright : goal.returns-clause-outright
 returns-clause-outright c =
@@ -136,7 +135,7 @@ returns-clause-shape c =
     let placed = ap (alternates true) (sym c.deref-2.ensures.value) ∙ sym c.alternates.ensures ∙ c.if-not-alternates.false in
     let at = c.height_for-height.ensures.value ∙ ap height_for (c.len.ensures ∙ c.args.nodes.ok.0) in
     let full = ap (λ xs. is_full_width (term_of c.height_for-height.result xs)) (sym c.deref-3.ensures.value) ∙ sym c.is_full_width.ensures ∙ c.if-not-is_full_width.false in
-    ap is_full_width (sym (same_term c.args.nodes.items last placed c.height_for-height.result at _ c.in_ok-pad_tree.ensures.ok)) ∙ full
+    ap is_full_width (sym (same_term c.args.nodes.items last placed c.height_for-height.result at _ (ap (λ r. r.nodes) c.in_ok-cells.ensures ∙ c.in_ok-pad_tree.ensures.ok))) ∙ full
 
 pub returns-clause-short : goal.returns-clause-short
 returns-clause-short c = λ short.
@@ -147,5 +146,5 @@ returns-clause-cold c =
     let last = ap has_last (sym c.deref.ensures.value) ∙ sym c.has_last.ensures ∙ c.if-not-has_last.false in
     let placed = ap (alternates true) (sym c.deref-2.ensures.value) ∙ sym c.alternates.ensures ∙ c.if-not-alternates.false in
     let at = c.height_for-height.ensures.value ∙ ap height_for (c.len.ensures ∙ c.args.nodes.ok.0) in
-    let stands = stands_as c.args.nodes.items last placed c.height_for-height.result at _ c.in_ok-pad_tree.ensures.ok in
-    new_tree _ _ (ap (λ h. h.kept) c.in_ok-hashes.ensures) (c.len-2.ensures ∙ c.pad_tree.new.nodes.ok.0 ∙ stands.size ∙ sym (size-term_of c.height_for-height.result _)) (ap (λ h. h.done) c.in_ok-hashes.ensures)
+    let padded = stands_as c.args.nodes.items last placed c.height_for-height.result at _ c.in_ok-pad_tree.ensures.ok in
+    new_tree _ _ (ap (λ r. r.hashes) c.in_ok-cells.ensures) (padded.size ∙ sym (size-term_of c.height_for-height.result _)) refl

@@ -2,7 +2,6 @@ use Rattle.std.proofs.Common.{◌≡◌, ◌∷◌, ◌++◌, length, IfOk, sym,
 use Rattle.mls_tree_model.specs.Sets.{same_bytes, is_distinct}
 use Rattle.mls_tree_array.specs.Standing.{Stands}
 use Rattle.mls_tree_index.specs.Keys.{keys_of}
-use Rattle.mls_tree_index.specs.Indexes.{Indexes}
 use Rattle.mls_tree_index.specs.BlankedCells.{cells_without}
 use Rattle.mls_tree.specs.Tree.{term}
 use Rattle.mls_tree.specs.Way.{way_numbers}
@@ -12,7 +11,7 @@ use Rattle.mls_tree.proofs.Indexing.{way_once}
 use Rattle.mls_tree.proofs.tree.PublicTree.keys_differ.Goals as goal
 
 pub accepts_beside-requires : goal.accepts_beside-requires
-accepts_beside-requires c = way_once c.self.inside.height c.args.i _ (c.as_slice-places.ensures ∙ c.over-way.ensures)
+accepts_beside-requires c = way_once c.self.inside.height c.args.i _ (c.as_slice-places.ensures.numbers ∙ c.over-way.ensures)
 
 pub returns : goal.returns
 returns c =
@@ -20,10 +19,10 @@ returns c =
     let keys = c.args.keys.now in
     let t = c.args.self.now in
     let kind = c.self.invariant.4.encryption in
-    let cells = c.deref.ensures.value ∙ ap (λ t. t.nodes) c.self.view_is in
-    let way = c.as_slice-places.ensures ∙ c.over-way.ensures ∙ ap (λ t. way_numbers t.height c.args.i) c.self.view_is in
+    let cells = ap (λ t. t.nodes) c.self.view_is in
+    let way = c.as_slice-places.ensures.numbers ∙ c.over-way.ensures ∙ ap (λ t. way_numbers t.height c.args.i) c.self.view_is in
     let stands = subst (λ t. Stands t.height t.nodes) c.self.view_is c.self.invariant.0 in
-    let index = subst (λ xs. Indexes xs c.self.inside.indexes.keys) (sym c.deref.ensures.value) c.self.invariant.4.keys in
+    let index = c.self.invariant.4.keys in
     subst (λ v. IfOk c.accepts_beside.result (λ b. b ≡ v)) (
     ap (λ xs. is_distinct same_bytes (x.encryption_key ∷ (keys ++ keys_of c.self.inside.indexes.keys.kind (cells_without 0 c.as_slice-places.result.now xs)))) cells
     ∙ ap (λ ns. is_distinct same_bytes (x.encryption_key ∷ (keys ++ keys_of c.self.inside.indexes.keys.kind (cells_without 0 ns t.nodes)))) way

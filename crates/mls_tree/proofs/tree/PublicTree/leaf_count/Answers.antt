@@ -9,5 +9,5 @@ pub returns : goal.returns
 returns c =
     let low = c.self.invariant.1 in
     one_shl c.self.inside.height 32 (omega arith)
-    ∙ sym (width-term_of c.self.inside.height c.self.inside.nodes.items)
+    ∙ sym (width-term_of c.self.inside.height c.self.inside.cells.nodes)
     ∙ ap (λ t. width (term t)) c.self.view_is

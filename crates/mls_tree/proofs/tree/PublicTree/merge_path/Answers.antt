@@ -1,7 +1,7 @@
-use Rattle.std.proofs.Common.{◌≡◌, true, is_some, Ok, [], reverse, sym, ◌∙◌, ap, subst}
+use Rattle.std.proofs.Common.{◌≡◌, true, is_some, Ok, [], reverse, refl, sym, ◌∙◌, ap, subst}
 use Rattle.mls_tree_model.specs.Term.{leaf_of}
 use Rattle.mls_tree_model.specs.Merge.{merge_path}
-use Rattle.mls_tree_model.proofs.ArrayLaws.{perfect-term_of}
+use Rattle.mls_tree_cells.specs.Cells.{CellList}
 use Rattle.mls_tree_array.specs.Merging.{path_parents}
 use Rattle.mls_tree.specs.ColdNodes.{Chills}
 use Rattle.mls_tree.specs.ColdNodes.{Warms}
@@ -17,14 +17,14 @@ pub returns-in-Err-clause-answer : goal.returns-in-Err-clause-answer
 returns-in-Err-clause-answer c =
     (c.tree_hash-tree_hash.ensures.same, λ other. rw c.tree_hash-tree_hash.ensures.same at (merge_refused _ _ _ _ _ (c.in-Err.ensures.checks other)))
 
-pub drop_way-requires-clause-shape : goal.drop_way-requires-clause-shape
-drop_way-requires-clause-shape c = kept_long c.self.inside.height c.self.inside.nodes.items _ c.self.invariant.2
+pub merge_with_indexes-requires-clause-long : goal.merge_with_indexes-requires-clause-long
+merge_with_indexes-requires-clause-long c = kept_long c.self.inside.height c.self.inside.cells.nodes _ c.self.invariant.2
 
 pub returns-clause-answer : goal.returns-clause-answer
 returns-clause-answer c =
     let made = c.in-Ok.ensures.parents ∙ ap (λ t. path_parents 0 (term t) c.args.i (reverse c.args.keys.items) []) (sym c.self.view_is) in
     rw c.tree_hash-tree_hash.ensures.same at (merge_done _ _ _ _ c.in-Ok.ensures.checks
-    ∙ ap Ok (ap (λ t. merge_path (term t) c.args.i c.args.leaf c.args.keys.items) (sym c.self.view_is) ∙ sym (c.in_ok-merge_with_indexes.ensures.merged c.args.keys.items made).term))
+    ∙ ap Ok (ap (λ t. merge_path (term t) c.args.i c.args.leaf c.args.keys.items) (sym c.self.view_is) ∙ sym (c.in_ok-merge_with_indexes.ensures.merged c.args.keys.items made).nodes.term))
 
 pub returns-clause-good : goal.returns-clause-good
 returns-clause-good c = merge_new _ _ _ _ _ (returns-clause-answer c)
@@ -40,18 +40,20 @@ returns-clause-cold c = (
   c.tree_hash-tree_hash.new.self,
   warmed c.args.self.now c.tree_hash-tree_hash.new.self c.tree_hash-tree_hash.ensures.all c.tree_hash-tree_hash.ensures.counted,
   c.tree_hash-tree_hash.ensures.same,
-  subst (λ t. Chills t c.args.i c.tree_hash-tree_hash.new.self (tree_of c.self.inside.height c.merge_with_indexes.new.nodes.items c.drop_way.new.self.kept c.drop_way.new.self.done)) c.tree_hash-tree_hash.ensures.same
-      (edited_in c.self.inside.height c.args.i c.self.inside.nodes.items _ _ _ c.self.view_is c.self.invariant.2 (subst (λ t. is_some (leaf_of t c.args.i) ≡ true) (sym c.tree_hash-tree_hash.ensures.same) (merge_member _ _ _ _ _ (returns-clause-answer c))) c.merge_with_indexes.new.nodes.items c.drop_way.new.self.kept c.drop_way.new.self.done (c.drop_way.ensures.kept _ (perfect-term_of _ _)) c.drop_way.ensures.done),
+  (let made = c.in-Ok.ensures.parents ∙ ap (λ t. path_parents 0 (term t) c.args.i (reverse c.args.keys.items) []) (sym c.self.view_is) in
+      subst (λ t. Chills t c.args.i c.tree_hash-tree_hash.new.self (tree_of c.self.inside.height c.merge_with_indexes.new.cells.nodes c.merge_with_indexes.new.cells.hashes c.self.inside.done)) c.tree_hash-tree_hash.ensures.same
+      (edited_in c.self.inside.height c.args.i c.self.inside.cells.nodes _ _ _ c.self.view_is c.self.invariant.2 (subst (λ t. is_some (leaf_of t c.args.i) ≡ true) (sym c.tree_hash-tree_hash.ensures.same) (merge_member _ _ _ _ _ (returns-clause-answer c))) c.merge_with_indexes.new.cells.nodes c.merge_with_indexes.new.cells.hashes c.self.inside.done (c.in_ok-merge_with_indexes.ensures.merged c.args.keys.items made).hashes refl)),
 )
 
 pub returns-in_err-merge_with_indexes-clause-warms : goal.returns-in_err-merge_with_indexes-clause-warms
 returns-in_err-merge_with_indexes-clause-warms c =
     let before = subst (Warms c.args.self.now) (sym c.self.view_is) (warmed c.args.self.now c.tree_hash-tree_hash.new.self c.tree_hash-tree_hash.ensures.all c.tree_hash-tree_hash.ensures.counted) in
-    on_err _ _ (subst (λ xs. Warms c.args.self.now (tree_of c.self.inside.height xs c.self.inside.hashes.kept c.self.inside.hashes.done)) (sym c.in_err-merge_with_indexes.ensures.unchanged) before)
+    on_err _ _ (subst (λ (cs : CellList). Warms c.args.self.now (tree_of c.self.inside.height cs.nodes cs.hashes c.self.inside.done)) (sym c.in_err-merge_with_indexes.ensures.unchanged) before)
 
 pub invariant_of-self-2 : goal.invariant_of-self-2
 invariant_of-self-2 c =
     let made = c.in-Ok.ensures.parents ∙ ap (λ t. path_parents 0 (term t) c.args.i (reverse c.args.keys.items) []) (sym c.self.view_is) in
-    let stands = c.in_ok-merge_with_indexes.ensures.merged c.args.keys.items made in
-    let indexed = c.in_ok-merge_with_indexes.ensures.indexed c.args.keys.items made c.self.invariant.4 in
-    (stands.stands, c.self.invariant.1, kept-merge _ _ _ c.self.invariant.2 _ _ _ _ _ _ (c.drop_way.ensures.kept _ (perfect-term_of _ _)) stands, merged _ _ _ _ _ (ap term c.self.view_is) c.self.invariant.3 _ _ _ _ _ stands (merge_member _ _ _ _ _ (merge_done _ _ _ _ c.in-Ok.ensures.checks)), indexed)
+    let merged_path = c.in_ok-merge_with_indexes.ensures.merged c.args.keys.items made in
+    let stands = merged_path.nodes in
+    let indexed = c.merge_with_indexes.ensures.indexed c.args.keys.items made c.self.invariant.4 in
+    (stands.stands, c.self.invariant.1, kept-merge _ _ _ c.self.invariant.2 _ _ _ _ _ _ merged_path.hashes stands, merged _ _ _ _ _ (ap term c.self.view_is) c.self.invariant.3 _ _ _ _ _ stands (merge_member _ _ _ _ _ (merge_done _ _ _ _ c.in-Ok.ensures.checks)), indexed)

@@ -1,12 +1,18 @@
-use Rattle.std.proofs.Common.{arith}
-use Rattle.mls_tree_array.proofs.SubtreeLaws.{leaves_are, end_is}
+use Rattle.std.proofs.Common.{◌+◌, ◌∙◌, ap, arith}
+use Rattle.std.proofs.lemmas.Nat.{one_shl}
+use Rattle.mls_tree_array.proofs.SubtreeLaws.{low_height, end_is}
 use Rattle.mls_tree_array.proofs.subtree.Subtree.end.Goals as goal
 
-pub overflow_cast-result : goal.overflow_cast-result
-overflow_cast-result c = let leaves = leaves_are c.self.inside.height c.self.inside.nodes.now c.self.invariant.0 in omega arith
+pub overflow_shl-result : goal.overflow_shl-result
+overflow_shl-result c = low_height c.self.inside.height c.self.inside.first c.self.invariant.1
 
-pub overflow_add-result-2 : goal.overflow_add-result-2
-overflow_add-result-2 c = let leaves = leaves_are c.self.inside.height c.self.inside.nodes.now c.self.invariant.0 in omega arith
+pub overflow_add-result : goal.overflow_add-result
+overflow_add-result c =
+    let low = low_height c.self.inside.height c.self.inside.first c.self.invariant.1 in
+    let power = one_shl c.self.inside.height 32 low in
+    omega arith
 
 pub returns : goal.returns
-returns c = end_is _ _ c.self.inside.nodes.now _ c.self.view_is c.self.invariant.0
+returns c =
+    let low = low_height c.self.inside.height c.self.inside.first c.self.invariant.1 in
+    ap (λ k. c.self.inside.first + k) (one_shl c.self.inside.height 32 low) ∙ end_is _ _ c.self.inside.cells.now.nodes _ c.self.view_is

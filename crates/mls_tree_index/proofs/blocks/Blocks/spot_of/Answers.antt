@@ -6,7 +6,7 @@ use Rattle.mls_tree_index.proofs.blocks.Blocks.spot_of.Goals as goal
 pub returns-clause-gap : goal.returns-clause-gap
 returns-clause-gap c =
     let kind = c.args.kind in
-    let cells = c.args.cells.now in
+    let cells = c.args.cells.now.nodes in
     let key = c.args.key.now in
     let x = c.args.x in
     let bs = c.args.self.now.blocks in

@@ -17,7 +17,7 @@ pub returns-in-Some-clause-entered : goal.returns-in-Some-clause-entered
 returns-in-Some-clause-entered t c = λ d places is.
     let x = c.in-Some.x.now in
     let rest = c.in-Some.rest.now in
-    let cells = c.args.cells.now in
+    let cells = c.args.cells.now.nodes in
     let parts = c.in-Some.ensures.cases.0 in
     let distinct = subst (λ ns. is_distinct nat_eq ns ≡ true) parts c.requires.distinct in
     let here = subst (λ ns. HasPlaces c.args.self.now.kind ns cells d) parts places in

@@ -1,4 +1,4 @@
-use Rattle.std.proofs.Common.{◌+◌, ◌<◌, ◌++◌, ◌∷◌, [], length, refl, sym, ◌∙◌, ap, subst, arith}
+use Rattle.std.proofs.Common.{◌+◌, ◌<◌, ◌++◌, ◌∷◌, [], false, length, refl, sym, ◌∙◌, ap, subst, arith}
 use mir.Val.{bool_byte}
 use Rattle.mls_tree_index.specs.Keys.{key_in}
 use Rattle.mls_tree_index.specs.Entries.{is_again}
@@ -13,7 +13,7 @@ loop-place-init c =
     let len = c.in_ok-numbers.ensures.len in
     record {
       numbers = c.in_ok-numbers.ensures.items;
-      built = built_none c.args.kind c.args.cells.now c.in_ok-entries.entries.items c.in_ok-entries.ensures.entries _ refl c.in_ok-numbers.ensures.items refl;
+      built = built_none c.args.kind c.args.cells.now.nodes c.in_ok-entries.entries.items c.in_ok-entries.ensures.entries _ refl c.in_ok-numbers.ensures.items refl;
       few = omega arith;
       room = omega arith;
       low = omega arith;
@@ -26,7 +26,7 @@ loop-place-preserved c =
     let room = before.room in
     let low = before.low in
     let kind = c.args.kind in
-    let cells = c.args.cells.now in
+    let cells = c.args.cells.now.nodes in
     let es = c.in_ok-entries.entries.items in
     let are = c.in_ok-entries.ensures.entries in
     let i = c.loop-place.place in
@@ -53,6 +53,6 @@ pub returns-clause-built : goal.returns-clause-built
 returns-clause-built c =
     let past = c.loop-place-test.false in
     let end = c.len-place-end.ensures in
-    let numbers = c.in_ok-blocks.ensures ∙ c.deref-2.ensures.value in
-    same_index c.args.cells.now (record { kind = c.args.kind; numbers = c.loop-place.numbers.items; repeats = c.loop-place.repeats; room = 0 }) _ (record { kind = refl; numbers = numbers; repeats = refl })
-    (built_all c.args.kind c.args.cells.now c.in_ok-entries.entries.items c.in_ok-entries.ensures.entries c.loop-place.place _ (omega arith) refl c.loop-place.invariant.built)
+    let numbers = c.in_ok-blocks.ensures.numbers ∙ c.deref-2.ensures.value in
+    same_index c.args.cells.now.nodes (record { kind = c.args.kind; numbers = c.loop-place.numbers.items; repeats = c.loop-place.repeats; room = 0; shared = false }) _ (record { kind = refl; numbers = numbers; repeats = refl })
+    (built_all c.args.kind c.args.cells.now.nodes c.in_ok-entries.entries.items c.in_ok-entries.ensures.entries c.loop-place.place _ (omega arith) refl c.loop-place.invariant.built)

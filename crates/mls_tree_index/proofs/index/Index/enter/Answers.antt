@@ -1,56 +1,41 @@
-use Rattle.std.proofs.Common.{◌≡◌, sym, ◌∙◌, ap, arith}
-use Rattle.std.specs.List.{concat, insert}
+use Rattle.std.proofs.Common.{refl, sym, ◌∙◌, ap, arith}
+use Rattle.std.specs.List.{concat}
 use Rattle.mls_tree_index.specs.Blocks.{place_of}
 use Rattle.mls_tree_index.specs.Indexes.{Listing}
-use Rattle.mls_tree_index.specs.Keys.{key_in, keys_of, repeats_in}
-use Rattle.mls_tree_index.proofs.StepLaws.{one_held, none_held, entered, few}
-use Rattle.mls_tree_index.proofs.StepLaws.{around_for, indexes_from, nothing_entered, part_before, place_for}
+use Rattle.mls_tree_index.specs.Keys.{key_in}
+use Rattle.mls_tree_index.proofs.EnterLaws.{enters_again, enters_never, enters_new}
+use Rattle.mls_tree_index.proofs.StepLaws.{nothing_entered}
 use Rattle.mls_tree_index.proofs.index.Index.enter.Goals as goal
 
 pub returns-in_default-clause-entered : goal.returns-in_default-clause-entered
 returns-in_default-clause-entered c = λ b d without is.
-    let none = ap (λ j. key_in j c.args.cells.now c.args.x) (sym (ap (λ (t : Listing). t.kind) c.self.view_is)) ∙ sym c.in_default.ensures in
-    nothing_entered c.args.x c.args.cells.now b d c.args.self.now without none is
+    let none = ap (λ j. key_in j c.args.cells.now.nodes c.args.x) (sym (ap (λ (t : Listing). t.kind) c.self.view_is)) ∙ sym c.in_default.ensures in
+    nothing_entered c.args.x c.args.cells.now.nodes b d c.args.self.now without none is
 
-pub returns-then-again-clause-entered : goal.returns-then-again-clause-entered
-returns-then-again-clause-entered c = λ b d without is.
-    let s = c.args.self.now in
-    let kind = c.self.inside.kind in
-    let ns = concat c.self.inside.blocks.blocks in
-    let cells = c.args.cells.now in
-    let p = place_of c.self.inside.blocks.blocks c.spot_of-spot.result in
+pub returns-then-not-again-clause-entered : goal.returns-then-not-again-clause-entered
+returns-then-not-again-clause-entered c =
     let kinds = ap (λ (t : Listing). t.kind) c.self.view_is in
     let numbers = ap (λ (t : Listing). t.numbers) c.self.view_is in
-    let x = c.args.x in
-    let k = c.in-Some.key.now in
-    let key = ap (λ j. key_in j cells x) (sym kinds) ∙ sym c.in-Some.ensures in
-    let part = part_before x cells b d s without in
-    let gap = place_for s kind ns cells k x p kinds numbers c.spot_of-spot.ensures.gap (key_in s.kind b) part is.entries in
-    let held = around_for s kind ns cells k p c.is_beside-again.result kinds numbers c.is_beside-again.ensures b part is.entries x gap in
-    let more = entered x cells b d s without k key p is.entries gap in
-    let one = one_held x cells b d s without k key (sym c.if-again.true ∙ held) in
-    let low = few x cells b d s without k key in
-    let old : c.self.inside.repeats ≡ repeats_in (keys_of s.kind b) = ap (λ (t : Listing). t.repeats) c.self.view_is ∙ is.repeats in
-    let sum = c.saturating_add-self-inside.ensures in
-    let now : c.saturating_add-self-inside.result ≡ repeats_in (keys_of s.kind d) = omega arith in
-    indexes_from s.kind (insert s.numbers p x) d _ kinds (c.insert.ensures.numbers ∙ ap (λ ms. insert ms p x) numbers) more now
+    let key = ap (λ j. key_in j c.args.cells.now.nodes c.args.x) (sym kinds) ∙ sym c.in-Some.ensures in
+    enters_new c.args.x c.args.cells.now.nodes c.args.self.now c.self.inside.kind (concat c.self.inside.blocks.blocks) c.in-Some.key.now (place_of c.self.inside.blocks.blocks c.spot_of-spot.result) c.is_beside-again.result kinds numbers key c.spot_of-spot.ensures.gap c.is_beside-again.ensures
+    _ refl c.insert.ensures.numbers (ap (λ (t : Listing). t.repeats) c.self.view_is) c.if-not-again.true
 
-pub returns-else-again-clause-entered : goal.returns-else-again-clause-entered
-returns-else-again-clause-entered c = λ b d without is.
-    let s = c.args.self.now in
-    let kind = c.self.inside.kind in
-    let ns = concat c.self.inside.blocks.blocks in
-    let cells = c.args.cells.now in
-    let p = place_of c.self.inside.blocks.blocks c.spot_of-spot.result in
+pub returns-then-self-len-clause-entered : goal.returns-then-self-len-clause-entered
+returns-then-self-len-clause-entered c =
     let kinds = ap (λ (t : Listing). t.kind) c.self.view_is in
     let numbers = ap (λ (t : Listing). t.numbers) c.self.view_is in
-    let x = c.args.x in
-    let k = c.in-Some.key.now in
-    let key = ap (λ j. key_in j cells x) (sym kinds) ∙ sym c.in-Some.ensures in
-    let part = part_before x cells b d s without in
-    let gap = place_for s kind ns cells k x p kinds numbers c.spot_of-spot.ensures.gap (key_in s.kind b) part is.entries in
-    let held = around_for s kind ns cells k p c.is_beside-again.result kinds numbers c.is_beside-again.ensures b part is.entries x gap in
-    let more = entered x cells b d s without k key p is.entries gap in
-    let none = none_held x cells b d s without k key (sym c.if-again.false ∙ held) in
-    let now = ap (λ (t : Listing). t.repeats) c.self.view_is ∙ is.repeats ∙ sym none in
-    indexes_from s.kind (insert s.numbers p x) d _ kinds (c.insert.ensures.numbers ∙ ap (λ ms. insert ms p x) numbers) more now
+    let key = ap (λ j. key_in j c.args.cells.now.nodes c.args.x) (sym kinds) ∙ sym c.in-Some.ensures in
+    let repeats = ap (λ (t : Listing). t.repeats) c.self.view_is in
+    enters_again c.args.x c.args.cells.now.nodes c.args.self.now c.self.inside.kind (concat c.self.inside.blocks.blocks) c.in-Some.key.now (place_of c.self.inside.blocks.blocks c.spot_of-spot.result) c.is_beside-again.result kinds numbers key c.spot_of-spot.ensures.gap c.is_beside-again.ensures
+    _ refl c.insert.ensures.numbers (omega arith) c.if-not-again.false
+
+pub returns-else-self-len-clause-entered : goal.returns-else-self-len-clause-entered
+returns-else-self-len-clause-entered c =
+    let kinds = ap (λ (t : Listing). t.kind) c.self.view_is in
+    let numbers = ap (λ (t : Listing). t.numbers) c.self.view_is in
+    let key = ap (λ j. key_in j c.args.cells.now.nodes c.args.x) (sym kinds) ∙ sym c.in-Some.ensures in
+    let repeats = ap (λ (t : Listing). t.repeats) c.self.view_is in
+    let long = c.len.ensures.nodes in
+    let past = c.if-self-len.false in
+    enters_never c.args.x c.args.cells.now.nodes c.args.self.now c.self.inside.kind (concat c.self.inside.blocks.blocks) c.in-Some.key.now (place_of c.self.inside.blocks.blocks c.spot_of-spot.result) c.is_beside-again.result kinds numbers key c.spot_of-spot.ensures.gap c.is_beside-again.ensures
+    (record { kind = c.self.inside.kind; numbers = concat c.insert.new.self.blocks; repeats = c.self.inside.repeats; room = c.insert.new.self.room; shared = c.insert.new.self.shared }) c.if-not-again.false (omega arith)

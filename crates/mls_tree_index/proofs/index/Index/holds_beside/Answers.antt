@@ -7,7 +7,7 @@ use Rattle.mls_tree_index.proofs.index.Index.holds_beside.Goals as goal
 pub returns-in-Some : goal.returns-in-Some
 returns-in-Some c = λ is distinct.
     let kind = c.args.self.now.kind in
-    let cells = c.args.cells.now in
+    let cells = c.args.cells.now.nodes in
     let places = c.args.places.now in
     let here = c.in-Some.ensures is in
     let on = c.contains.ensures.value ∙ has_searched places c.in-Some.x in
@@ -17,4 +17,4 @@ returns-in-Some c = λ is distinct.
     ]
 
 pub returns-in-None : goal.returns-in-None
-returns-in-None c = λ is distinct. beside_none c.args.self.now.kind c.args.places.now c.args.cells.now c.args.key.now (sym (c.in-None.ensures is))
+returns-in-None c = λ is distinct. beside_none c.args.self.now.kind c.args.places.now c.args.cells.now.nodes c.args.key.now (sym (c.in-None.ensures is))

@@ -10,15 +10,15 @@ use Rattle.mls_tree_index.proofs.index.Index.leave.Goals as goal
 
 pub returns-in_default-clause-left : goal.returns-in_default-clause-left
 returns-in_default-clause-left c = λ b d without is.
-    let none = ap (λ j. key_in j c.args.cells.now c.args.x) (sym (ap (λ (t : Listing). t.kind) c.self.view_is)) ∙ sym c.in_default.ensures in
-    nothing_left c.args.x c.args.cells.now b d c.args.self.now without none is
+    let none = ap (λ j. key_in j c.args.cells.now.nodes c.args.x) (sym (ap (λ (t : Listing). t.kind) c.self.view_is)) ∙ sym c.in_default.ensures in
+    nothing_left c.args.x c.args.cells.now.nodes b d c.args.self.now without none is
 
 pub returns-then-self-eq0-clause-left : goal.returns-then-self-eq0-clause-left
 returns-then-self-eq0-clause-left c = λ b d without is.
     let s = c.args.self.now in
     let kind = c.self.inside.kind in
     let ns = concat c.self.inside.blocks.blocks in
-    let cells = c.args.cells.now in
+    let cells = c.args.cells.now.nodes in
     let p = place_of c.self.inside.blocks.blocks c.spot_of-spot.result in
     let kinds = ap (λ (t : Listing). t.kind) c.self.view_is in
     let numbers = ap (λ (t : Listing). t.numbers) c.self.view_is in
@@ -42,7 +42,7 @@ returns-then-holds-clause-left c = λ b d without is.
     let s = c.args.self.now in
     let kind = c.self.inside.kind in
     let ns = concat c.self.inside.blocks.blocks in
-    let cells = c.args.cells.now in
+    let cells = c.args.cells.now.nodes in
     let p = place_of c.self.inside.blocks.blocks c.spot_of-spot.result in
     let kinds = ap (λ (t : Listing). t.kind) c.self.view_is in
     let numbers = ap (λ (t : Listing). t.numbers) c.self.view_is in
@@ -66,7 +66,7 @@ returns-else-holds-clause-left c = λ b d without is.
     let s = c.args.self.now in
     let kind = c.self.inside.kind in
     let ns = concat c.self.inside.blocks.blocks in
-    let cells = c.args.cells.now in
+    let cells = c.args.cells.now.nodes in
     let p = place_of c.self.inside.blocks.blocks c.spot_of-spot.result in
     let kinds = ap (λ (t : Listing). t.kind) c.self.view_is in
     let numbers = ap (λ (t : Listing). t.numbers) c.self.view_is in

@@ -1,0 +1,4 @@
+pub mod SpreadLaws
+pub mod PartLaws
+pub mod OpenLaws
+pub mod CellLaws
