@@ -51,9 +51,15 @@ impl<S: Suite> Model for Candidate<S> {
 
     ghost Value = { model.Candidate };
 
-    ghost view = { λ k. record { offered = k.offered; init = k.init; leaf = k.leaf; signing = k.signing } };
+    ghost view = { λ k. record {
+      offered = k.offered;
+      init = k.init;
+      leaf = k.leaf;
+      signing = k.signing;
+    } };
 
-    ghost invariant = { λ k. (k.message.items ≡ model.package_message k.offered) × IsBelow (2 ^ 27) key_package k.offered };
+    ghost invariant = { λ k. (k.message.items ≡ model.package_message k.offered)
+        × IsBelow (2 ^ 27) key_package k.offered };
 }
 
 impl<S: Suite> Candidate<S> {

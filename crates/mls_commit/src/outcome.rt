@@ -42,9 +42,14 @@ impl Model for Outcome {
 
     ghost coded = { coded_outcome };
 
-    ghost view = { λ o. record { change = record { edits = o.edits; tree = next_term o.edits.tree o.tree; provisional = o.provisional; context = o.context }; on_own = is_merged o.tree } };
+    ghost view = { λ o. record {
+      change = record { edits = o.edits; tree = next_term o.edits.tree o.tree; provisional = o.provisional; context = o.context };
+      on_own = is_merged o.tree;
+    } };
 
-    ghost invariant = { λ o. IsShortContext o.provisional × IsShortContext o.context × IsPreparedFor o.edits.tree o.tree };
+    ghost invariant = { λ o. IsShortContext o.provisional
+        × IsShortContext o.context
+        × IsPreparedFor o.edits.tree o.tree };
 }
 
 /// The new epoch's context with the new transcript.

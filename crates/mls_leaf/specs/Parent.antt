@@ -40,10 +40,6 @@ IsPlaceFor leaf entries place =
 abbrev pub with_unmerged : ℕ → Parent → Parent
 with_unmerged leaf p = record p { unmerged_leaves = rising_with leaf p.unmerged_leaves }
 
--- The parent with a leaf taken out of its unmerged ones.
-abbrev pub without_unmerged : ℕ → Parent → Parent
-without_unmerged leaf p = record p { unmerged_leaves = without_leaf leaf p.unmerged_leaves }
-
 -- The leaf is one of the unmerged ones, so that putting it among them changes nothing.
 abbrev pub ListsUnmerged : ℕ → Parent → Type 0
 ListsUnmerged leaf p = rising_with leaf p.unmerged_leaves ≡ p.unmerged_leaves

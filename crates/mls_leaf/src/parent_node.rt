@@ -5,7 +5,7 @@ ghost use Rattle.mls_wire.specs.Stateful.{vector_from};
 ghost use Rattle.mls_wire.specs.CombineReads.{without_value};
 ghost use Rattle.mls_leaf.specs.declared.error.LeafError.TheVariants.{NotRising};
 ghost use Rattle.mls_leaf.specs.Faults.{Gives, AddsSpelling, ReadsFrontNow, ReadsAllPast};
-ghost use Rattle.mls_leaf.specs.Parent.{Parent, IsParentOf, rises, rising_with, IsPlaceFor, with_unmerged, without_unmerged, ListsUnmerged, HasNewUnmerged};
+ghost use Rattle.mls_leaf.specs.Parent.{Parent, IsParentOf, rises, rising_with, IsPlaceFor, with_unmerged, ListsUnmerged, HasNewUnmerged};
 ghost use Rattle.mls_leaf.specs.ParentNode.{entry_from, rising_rule, rising_entries, parent_node, parent_node_nonempty, parent_node_faults};
 
 use crate::bytes::Bytes;
@@ -29,7 +29,11 @@ pub struct ParentNode {
 impl Model for ParentNode {
     ghost Value = { Parent };
 
-    ghost view = { λ p. record { encryption_key = p.encryption_key; parent_hash = p.parent_hash; unmerged_leaves = p.unmerged_leaves.items } };
+    ghost view = { λ p. record {
+      encryption_key = p.encryption_key;
+      parent_hash = p.parent_hash;
+      unmerged_leaves = p.unmerged_leaves.items;
+    } };
 
     ghost invariant = { λ p. rises p.unmerged_leaves.items ≡ true };
 }
@@ -183,13 +187,6 @@ impl ParentNode {
         };
         self.unmerged_leaves.insert(place, leaf)?;
         Ok(true)
-    }
-
-    /// Takes a leaf out of the unmerged ones, which takes no memory.
-    pub fn remove_unmerged(&mut self, leaf: u32)
-        ensures { self.new ≡ without_unmerged leaf self.old }
-    {
-        self.unmerged_leaves.retain(|entry| *entry != leaf);
     }
 }
 

@@ -42,7 +42,8 @@ impl<S: Suite> Member<S> {
 
     /// The refusal of bytes for which no memory was found: what is refused before anything grows comes first.
     pub(crate) fn early_refusal(&self, bytes: &[u8], error: OutOfMemory) -> Refusal
-        ensures is { number_of result ≢ 1 → early_checks self.now bytes.now ≡ Err (number_of result) }
+        ensures is { number_of result ≢ 1
+            → early_checks self.now bytes.now ≡ Err (number_of result) }
         ensures early { (n : ℕ) → early_checks self.now bytes.now ≡ Err n → number_of result ≡ n }
     {
         match self.check_early(bytes) {

@@ -30,7 +30,12 @@ impl<'a> Model for GroupMember<'a> {
 
     ghost Value = { model.GroupMember };
 
-    ghost view = { λ m. record { leaf = m.leaf; identity = m.identity.now; signature_key = m.signature_key.now; encryption_key = m.encryption_key.now } };
+    ghost view = { λ m. record {
+      leaf = m.leaf;
+      identity = m.identity.now;
+      signature_key = m.signature_key.now;
+      encryption_key = m.encryption_key.now;
+    } };
 }
 
 /// The members of a group, by rising leaf index, lent from the group's tree. It takes no memory.

@@ -33,7 +33,13 @@ impl Model for KeptProposal {
 
     ghost coded = { coded_kept };
 
-    ghost view = { λ k. record { reference = k.reference; message = k.message.items; proposal = k.proposal; sender = k.sender; own_key = k.own_key } };
+    ghost view = { λ k. record {
+      reference = k.reference;
+      message = k.message.items;
+      proposal = k.proposal;
+      sender = k.sender;
+      own_key = k.own_key;
+    } };
 
     ghost invariant = { λ k. IsBelow (2 ^ 27) proposal_format k.proposal };
 }
@@ -59,5 +65,10 @@ impl Model for Pending {
 
     ghost coded = { coded_pending };
 
-    ghost view = { λ p. record { message = p.message.items; public = p.group; epoch_secret = p.epoch; keys = p.keys } };
+    ghost view = { λ p. record {
+      message = p.message.items;
+      public = p.group;
+      epoch_secret = p.epoch;
+      keys = p.keys;
+    } };
 }

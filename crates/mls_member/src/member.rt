@@ -47,7 +47,15 @@ impl<S: Suite> Model for Member<S> {
 
     ghost coded = { coded_member };
 
-    ghost view = { λ m. record { gone = m.gone; public = m.group; epoch_secret = m.epoch; keys = m.keys; signing = m.signing; kept = m.kept.items; pending = m.pending } };
+    ghost view = { λ m. record {
+      gone = m.gone;
+      public = m.group;
+      epoch_secret = m.epoch;
+      keys = m.keys;
+      signing = m.signing;
+      kept = m.kept.items;
+      pending = m.pending;
+    } };
 }
 
 impl<S: Suite> Member<S> {

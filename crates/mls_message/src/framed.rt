@@ -35,7 +35,9 @@ impl Model for Framed {
 
     ghost view = { λ f. f.content.value };
 
-    ghost invariant = { λ f. (f.bytes.items ≡ framed_content.spell f.content.value) × framed_content.Fits f.content.value × (length f.bytes.items ≤ input_limit) };
+    ghost invariant = { λ f. (f.bytes.items ≡ framed_content.spell f.content.value)
+        × framed_content.Fits f.content.value
+        × (length f.bytes.items ≤ input_limit) };
 }
 
 /// A law: a number of 32 bits.

@@ -40,9 +40,15 @@ impl Model for PublicGroup {
 
     ghost coded = { coded_public };
 
-    ghost view = { λ g. record { context = g.context; tree = term g.tree; interim = g.transcript } };
+    ghost view = { λ g. record {
+      context = g.context;
+      tree = term g.tree;
+      interim = g.transcript;
+    } };
 
-    ghost invariant = { λ g. (g.bytes.items ≡ group_context.spell g.context) × IsShortContext g.context × HasLeavesBelow (2 ^ 27) (term g.tree) };
+    ghost invariant = { λ g. (g.bytes.items ≡ group_context.spell g.context)
+        × IsShortContext g.context
+        × HasLeavesBelow (2 ^ 27) (term g.tree) };
 }
 
 impl PublicGroup {

@@ -30,7 +30,8 @@ impl Model for SharedTree {
 
     ghost view = { λ s. s.tree.value };
 
-    ghost invariant = { λ s. (s.tree.value.hashes ≡ hashes_of 0 (term s.tree.value)) × (s.hash ≡ tree_hash 0 (term s.tree.value)) };
+    ghost invariant = { λ s. (s.tree.value.hashes ≡ hashes_of 0 (term s.tree.value))
+        × (s.hash ≡ tree_hash 0 (term s.tree.value)) };
 }
 
 impl SharedTree {

@@ -20,5 +20,9 @@ impl<'a> Model for Used<'a> {
 
     ghost Value = { model.Used };
 
-    ghost view = { λ u. record { proposal = u.proposal.now; sender = u.sender; is_full = u.is_full } };
+    ghost view = { λ u. record {
+      proposal = u.proposal.now;
+      sender = u.sender;
+      is_full = u.is_full;
+    } };
 }

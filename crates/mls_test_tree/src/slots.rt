@@ -1,5 +1,5 @@
 use mls_leaf::{Codec, LeafError, LeafNode, Node, ParentNode};
-use mls_tree_slot::{NoParent, SharedLeaf, Slot};
+use mls_tree_slot::{SharedLeaf, Slot};
 use std::test::*;
 
 /// A leaf of "bob".
@@ -10,11 +10,11 @@ const LEAF: [u8; 25] = [
 /// A parent that lists none.
 const PARENT: [u8; 4] = [1, 0xaa, 0, 0];
 
-/// How many leaves the parent in a place lists.
-fn unmerged_count(slot: &Slot) -> usize {
+/// How many leaves the parent in a place lists; nothing where it holds none.
+fn unmerged_count(slot: &Slot) -> Option<usize> {
     match slot.node() {
-        Some(Node::Parent(parent)) => parent.unmerged_leaves().len(),
-        _ => 0,
+        Some(Node::Parent(parent)) => Some(parent.unmerged_leaves().len()),
+        _ => None,
     }
 }
 
@@ -23,15 +23,10 @@ fn a_copy_keeps_its_node(rt: HostRuntime) -> Result<(), Fail> {
     let alloc = rt.alloc();
     let mut slot = Slot::of(alloc, Node::Parent(ParentNode::decode(alloc, &PARENT)?))?;
     let copy = slot.clone()?;
-    match slot.parent_mut() {
-        Ok(parent) => assert!(rt; parent.insert_unmerged(7)?),
-        Err(_) => assert!(rt; false),
-    }
-    assert_eq!(rt; (unmerged_count(&slot), unmerged_count(&copy)), (1, 0));
+    assert!(rt; slot.is_taken());
     slot = Slot::blank();
     assert!(rt; !slot.is_taken());
-    assert!(rt; copy.is_taken());
-    assert!(rt; matches!(slot.parent_mut(), Err(NoParent::Absent)));
+    assert_eq!(rt; unmerged_count(&copy), Some(0));
     Ok(())
 }
 

@@ -87,7 +87,8 @@ fn are_all_signed<S: Suite>(
     requires fits { length cells.now.nodes < 2 ^ 32 }
     requires group { length group_id.now < 2 ^ 28 }
     requires short { HasShortLeaves (term_of height cells.now.nodes) }
-    ensures { IfOk result (AnswersAllSigned S.crypto group_id.now (term_of height cells.now.nodes)) }
+    ensures { IfOk result
+        (AnswersAllSigned S.crypto group_id.now (term_of height cells.now.nodes)) }
 {
     let leaves = (cells.len() / 2 + 1) as u32;
     for i in 0..leaves {
@@ -159,7 +160,8 @@ fn check<S: Suite>(
     requires short { HasShortLeaves (term_of height cells.now.nodes) }
     requires hashed { cells.now.hashes ≡ hashes_of 0 (term_of height cells.now.nodes) }
     requires indexed { AreIndexes cells.now.nodes indexes.now }
-    ensures answer { AnswersTreeChecks S.crypto group_id.now (term_of height cells.now.nodes) result }
+    ensures answer { AnswersTreeChecks S.crypto group_id.now
+        (term_of height cells.now.nodes) result }
     ensures lists { Refuses (require 23 (has_good_lists (term_of height cells.now.nodes))) result }
     ensures rising { OnOk result (AllRise 0 (term_of height cells.now.nodes)) }
 {

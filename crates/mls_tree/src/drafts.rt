@@ -36,7 +36,12 @@ impl Model for PathDraft {
 
     ghost Value = { Draft };
 
-    ghost view = { λ d. record { index = d.index; keys = d.keys.items; parents = d.path.parents.items; hash = hash_bytes d.path.hash } };
+    ghost view = { λ d. record {
+      index = d.index;
+      keys = d.keys.items;
+      parents = d.path.parents.items;
+      hash = hash_bytes d.path.hash;
+    } };
 }
 
 impl PathDraft {

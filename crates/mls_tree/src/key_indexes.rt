@@ -94,7 +94,8 @@ impl KeyIndexes {
         requires distinct { is_distinct nat_eq way.now ≡ true }
         requires room { HaveRoom (length way.now) self.old }
         ensures room { LeavesRoom (length way.now) self.old self.new }
-        ensures left { AreIndexes cells.now.nodes self.old → AreBeside kept way.now cells.now.nodes self.new }
+        ensures left { AreIndexes cells.now.nodes self.old
+            → AreBeside kept way.now cells.now.nodes self.new }
     {
         self.keys.leave_all(cells, way);
         if !kept {
@@ -106,7 +107,8 @@ impl KeyIndexes {
     pub(crate) fn enter_path(&mut self, cells: &Cells, way: &[u32], kept: bool)
         requires distinct { is_distinct nat_eq way.now ≡ true }
         requires room { HaveRoom (2 * length way.now) self.old }
-        ensures { AreBeside kept way.now cells.now.nodes self.old → AreIndexes cells.now.nodes self.new }
+        ensures { AreBeside kept way.now cells.now.nodes self.old
+            → AreIndexes cells.now.nodes self.new }
     {
         self.keys.enter_all(cells, way);
         if !kept {

@@ -36,7 +36,13 @@ impl Model for PreparedPath {
 
     ghost Value = { Prepared };
 
-    ghost view = { λ p. record { index = p.index; leaf = p.leaf; parents = p.parents.items; hashes = p.hashes.items; root = p.root } };
+    ghost view = { λ p. record {
+      index = p.index;
+      leaf = p.leaf;
+      parents = p.parents.items;
+      hashes = p.hashes.items;
+      root = p.root;
+    } };
 }
 
 impl PreparedPath {

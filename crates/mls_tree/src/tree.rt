@@ -62,9 +62,18 @@ impl Model for PublicTree {
 
     ghost Value = { Tree };
 
-    ghost view = { λ t. record { height = t.height; nodes = t.cells.nodes; hashes = t.cells.hashes; hash_count = t.done } };
+    ghost view = { λ t. record {
+      height = t.height;
+      nodes = t.cells.nodes;
+      hashes = t.cells.hashes;
+      hash_count = t.done;
+    } };
 
-    ghost invariant = { λ t. Stands t.height t.cells.nodes × (t.height ≤ max_height) × Keeps 0 (term_of t.height t.cells.nodes) t.cells.hashes × Bounds (term_of t.height t.cells.nodes) t.full_to t.blank_from × AreIndexes t.cells.nodes t.indexes };
+    ghost invariant = { λ t. Stands t.height t.cells.nodes
+        × (t.height ≤ max_height)
+        × Keeps 0 (term_of t.height t.cells.nodes) t.cells.hashes
+        × Bounds (term_of t.height t.cells.nodes) t.full_to t.blank_from
+        × AreIndexes t.cells.nodes t.indexes };
 }
 
 impl PublicTree {

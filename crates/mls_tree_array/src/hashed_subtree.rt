@@ -35,7 +35,8 @@ impl<'a> Model for HashedSubtree<'a> {
 
     ghost view = { λ t. t.tree };
 
-    ghost invariant = { λ t. (2 * t.tree.first + node_count t.tree.term ≤ length t.cells.now.nodes) × AreHashesAt t.tree.first t.tree.term t.cells.now.hashes };
+    ghost invariant = { λ t. (2 * t.tree.first + node_count t.tree.term ≤ length t.cells.now.nodes)
+        × AreHashesAt t.tree.first t.tree.term t.cells.now.hashes };
 }
 
 /// What a subtree consists of.

@@ -25,7 +25,8 @@ fn fill_hashes(cells: &mut Cells, height: u32, first: u32, done: &mut u64) -> Ha
     ensures all { cells.new ≡ record cells.old {
       hashes = splice first (hashes_of first (term_at height first cells.old.nodes)) cells.old.hashes;
     } }
-    ensures counted { done.new ≡ counted done.old (cold_places (part height first cells.old.hashes)) }
+    ensures counted { done.new
+        ≡ counted done.old (cold_places (part height first cells.old.hashes)) }
 {
     let root = root_of(height, first) as usize;
     if let Some(hash) = cells.hash(root) {

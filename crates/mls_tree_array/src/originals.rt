@@ -130,7 +130,8 @@ pub(crate) fn original_hash(tree: &HashedSubtree<'_>, unmerged: &[u32]) -> Hash
 /// The tree hash of a leaf that is blank where it was added. No counter counts it.
 fn rehashed_leaf(leaf: Option<&LeafNode>, number: u32, unmerged: &[u32]) -> Hash
     requires { rises unmerged.now ≡ true }
-    ensures { result ≡ leaf_hash number (leaf_before unmerged.now number (option_copied leaf.entry)) }
+    ensures { result
+        ≡ leaf_hash number (leaf_before unmerged.now number (option_copied leaf.entry)) }
 {
     if has(unmerged, number) {
         return leaf_hash_without(number);

@@ -33,9 +33,13 @@ impl<'a> Model for Subtree<'a> {
 
     ghost coded = { coded_subtree };
 
-    ghost view = { λ t. record { first = t.first; term = term_at t.height t.first t.cells.now.nodes } };
+    ghost view = { λ t. record {
+      first = t.first;
+      term = term_at t.height t.first t.cells.now.nodes;
+    } };
 
-    ghost invariant = { λ t. (2 * t.first + nodes_in t.height ≤ length t.cells.now.nodes) × (t.first + 2 ^ t.height ≤ 2 ^ 31) };
+    ghost invariant = { λ t. (2 * t.first + nodes_in t.height ≤ length t.cells.now.nodes)
+        × (t.first + 2 ^ t.height ≤ 2 ^ 31) };
 }
 
 /// What a subtree consists of.

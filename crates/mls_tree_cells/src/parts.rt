@@ -32,7 +32,10 @@ impl Model for Parts {
 
     ghost Value = { PartList };
 
-    ghost view = { λ p. record { cells = all_cells (rows_of p.chunks.items) p.tops; shares = shares_of p.chunks.items } };
+    ghost view = { λ p. record {
+      cells = all_cells (rows_of p.chunks.items) p.tops;
+      shares = shares_of p.chunks.items;
+    } };
 
     ghost invariant = { λ p. AreParts (rows_of p.chunks.items) p.tops };
 }

@@ -54,7 +54,8 @@ impl Model for Blocks {
 fn push_block(list: &mut Vec<Block>, numbers: &[u32]) -> Result<(), AllocError>
     requires { length numbers.now ≤ block_size }
     ensures blocks { OnOk result (PushesBlock numbers.now list.old.items list.new.items) }
-    ensures own { OnOk result (are_shared list.old.items ≡ false → are_shared list.new.items ≡ false) }
+    ensures own { OnOk result
+        (are_shared list.old.items ≡ false → are_shared list.new.items ≡ false) }
 {
     let block = make_block(*list.allocator(), numbers)?;
     list.push(Block::of(block))?;

@@ -100,7 +100,8 @@ impl Index {
 
     /// A cell that has this key, where there is one.
     pub(crate) fn holder(&self, cells: &Cells, key: &[u8]) -> Option<u32>
-        ensures { Indexes cells.now.nodes self.now → IsHolder self.now.kind cells.now.nodes key.now result }
+        ensures { Indexes cells.now.nodes self.now
+            → IsHolder self.now.kind cells.now.nodes key.now result }
     {
         let spot = self.blocks.spot_of(self.kind, cells, key, 0);
         let Some(x) = self.blocks.number_at(spot) else {

@@ -31,7 +31,8 @@ impl Index {
         requires few { length cells.now.nodes ≤ 2 ^ 32 }
         ensures kind { self.new.kind ≡ self.old.kind }
         ensures room { self.old.room ≤ self.new.room }
-        ensures left { Indexes cells.now.nodes self.old → Indexes (take count cells.now.nodes) self.new }
+        ensures left { Indexes cells.now.nodes self.old
+            → Indexes (take count cells.now.nodes) self.new }
     {
         let mut end = cells.len();
         while end > count {

@@ -1,5 +1,5 @@
 -- The laws of trees as terms.
-use Rattle.std.specs.Prelude.{◌≡◌, ℕ, suc, ◌+◌, ◌*◌, ◌^◌, ◌<◌, ◌≤◌, ◌==◌, ◌||◌, Bool, true, false, not, nat_eq, if◌then◌else◌, List, [], ◌∷◌, map, filter, length, slice_index_or, Option, Some, None, is_some, is_none, IsSome, Ok, ◌⊎◌, ◌&&◌, ◌-◌}
+use Rattle.std.specs.Prelude.{◌≡◌, ℕ, suc, ◌+◌, ◌*◌, ◌^◌, ◌<◌, ◌≤◌, ◌==◌, ◌||◌, Bool, true, false, not, nat_eq, if◌then◌else◌, List, [], ◌∷◌, map, filter, length, slice_index_or, Option, Some, None, is_some, is_none, IsSome, Ok, ◌⊎◌, ◌&&◌}
 use Rattle.std.specs.List.{list_all}
 use Rattle.mls_leaf.specs.Parent.{Parent, rising_with}
 use Rattle.mls_leaf.specs.declared.leaf.LeafNode.{LeafNode}
@@ -9,7 +9,7 @@ use Rattle.mls_tree_model.specs.Resolution.{resolution, is_reached}
 use Rattle.mls_tree_model.specs.Way.{way, is_filtered, is_beside, filtered_path, path_length}
 use Rattle.mls_tree_model.specs.Node.{source_hash}
 use Rattle.mls_tree_model.specs.Places.{at_node}
-use Rattle.mls_treemath.specs.Paths.{Path, path_to, index_of, leaf_path, nodes_in}
+use Rattle.mls_treemath.specs.Paths.{Path, path_to, index_of, leaf_path}
 use Rattle.mls_treemath.specs.Steps.{above}
 use Rattle.mls_tree_model.specs.Edits.{put, enter, grow, trim, first_blank, place_in, add, update, remove}
 use Rattle.mls_tree_model.specs.Lists.{all_parents, lists_here, rises_here, is_listed_anywhere}
@@ -21,14 +21,6 @@ use Rattle.mls_wire.specs.Checks.{passed}
 use Rattle.mls_leaf.specs.declared.node.Node.{Node}
 use Rattle.mls_tree_model.specs.Good.{Rules, IsGood, AreNew, has_good_shape, is_within, tree_checks, IsSound, AreFit, has_good_lists, has_good_hashes, has_distinct_keys, has_distinct_clients}
 use Rattle.mls_tree_model.specs.Arrays.{leaf_in, term_of, in_order, to_nodes, from_nodes, node_at}
-
--- a list of n nodes, a tree of height h above a leaf, has m of them on either side of its root
-pub record HasMiddle (h n m : ℕ) : Type 0 where
-  pub side : m ≡ nodes_in (h - 1)
-  pub whole : n ≡ m + m + 1
-  pub leaves : m + 1 ≡ 2 * 2 ^ (h - 1)
-  pub all : 2 ^ h ≡ 2 * 2 ^ (h - 1)
-  pub positive : 0 < m
 
 -- the subtree at the end of a way down from the root
 unfoldable pub under : Path → Term → Option Term

@@ -6,4 +6,4 @@ mod shared_nodes;
 mod slot;
 
 pub use shared_nodes::{SharedLeaf, SharedParent};
-pub use slot::{NoParent, Slot};
+pub use slot::Slot;

@@ -100,7 +100,8 @@ impl<'a> Model for SealInfo<'a> {
 
     ghost view = { λ i. i.encrypted_info.now };
 
-    ghost invariant = { λ i. i.labelled.items ≡ content_with_label (codes "Welcome") i.encrypted_info.now };
+    ghost invariant = { λ i. i.labelled.items
+        ≡ content_with_label (codes "Welcome") i.encrypted_info.now };
 }
 
 impl<'a> SealInfo<'a> {

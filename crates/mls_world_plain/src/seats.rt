@@ -59,5 +59,11 @@ impl Model for Making {
 
     ghost Value = { stored.Making };
 
-    ghost view = { λ d. record { maker = d.maker; journal = d.journal; epoch_secret = d.epoch_secret; adds = d.adds.items; welcome = d.welcome } };
+    ghost view = { λ d. record {
+      maker = d.maker;
+      journal = d.journal;
+      epoch_secret = d.epoch_secret;
+      adds = d.adds.items;
+      welcome = d.welcome;
+    } };
 }

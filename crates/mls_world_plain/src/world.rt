@@ -33,7 +33,8 @@ impl<S: Suite> Model for PlainWorld<S> {
 
     ghost coded = { coded_world };
 
-    ghost view = { λ w. world_of w.entrants.items w.seats.items w.messages.items w.made.items w.journals.list };
+    ghost view = { λ w. world_of w.entrants.items w.seats.items
+        w.messages.items w.made.items w.journals.list };
 
     ghost invariant = { λ w. AreStored w.seats.items w.made.items w.journals.list };
 }
