@@ -37,10 +37,6 @@ none_of (Some v) e = absurd (true≢false e)
 pub unbounded : (t : Term) (n : ℕ) → width t ≤ n → Bounds t 0 n
 unbounded t n wide = record { full = λ j lt. absurd (omega arith); blank = λ j ge. leaf_of_out t j (omega arith) }
 
--- of an array likewise
-pub unbounded_array : (h : ℕ) (xs : List (Option Node)) → Bounds (term_of h xs) 0 (2 ^ h)
-unbounded_array h xs = unbounded (term_of h xs) (2 ^ h) (omega (arith, width-term_of h xs))
-
 -- ---- where an edit looks
 
 module _ (t : Term) (full_to blank_from : ℕ) (bounds : Bounds t full_to blank_from) where

@@ -29,7 +29,6 @@ use Rattle.mls_tree.proofs.ClientLaws.{indexes-client}
 use Rattle.mls_tree.specs.Way.{way_numbers}
 use Rattle.mls_tree.proofs.WayLaws.{way_distinct}
 use Rattle.mls_tree.proofs.WayIndexes.{indexes-put, indexes-merge}
-use Rattle.mls_tree.proofs.WayIndexes.{indexes-remove}
 use Rattle.mls_tree.proofs.Filling.{filled}
 use Rattle.mls_tree.proofs.KeptHashes.{grown_perfect}
 use Rattle.mls_tree.proofs.Pathing.{merge_is}
@@ -77,9 +76,6 @@ listed h ys t edited = sym (ap in_order edited.term) ∙ edited.stands.order
 module _ (h i : ℕ) (xs ys : List (Option Node)) (s : KeyIndexes) (stands : Stands h xs) where
   pub indexed-put : (x : Option LeafNode) → StandsFor h ys (put 0 (term_of h xs) i x) → AreIndexes (cells_without 0 (way_numbers h i) xs) s → AreIndexes (cells_without 0 (way_numbers h i) ys) s
   indexed-put x edited = both_of _ _ s (λ t. indexes-put h i xs stands t ys x edited)
-
-  pub indexed-remove : StandsFor h ys (put 0 (term_of h xs) i None) → AreIndexes (cells_without 0 (way_numbers h i) xs) s → AreIndexes ys s
-  indexed-remove edited = both_of _ _ s (λ t. indexes-remove h i xs stands t ys edited)
 
   pub indexed-merge : (x : LeafNode) (keys : List (List ℕ)) (kept : Bool) → (kept ≡ true → IsClient x.signature_key (leaf_of (term_of h xs) i)) → StandsFor h ys (merge_path (term_of h xs) i x keys) → AreBeside kept (way_numbers h i) xs s → AreBeside kept (way_numbers h i) ys s
   indexed-merge x keys kept client edited is = record {

@@ -1,6 +1,5 @@
 -- The kept hashes after a call.
-use Rattle.std.proofs.Common.{◌≡◌, ℕ, suc, ◌+◌, true, List, [], ◌++◌, length, take, reverse, replicate, Option, None, sym, ◌∙◌, ap, subst, arith, add-one}
-use Rattle.std.proofs.lemmas.List.{take_at}
+use Rattle.std.proofs.Common.{◌≡◌, ℕ, suc, ◌+◌, true, List, [], ◌++◌, length, take, reverse, replicate, Option, None, sym, ◌∙◌, ap, subst, add-one}
 use Rattle.mls_leaf.specs.declared.leaf.LeafNode.{LeafNode}
 use Rattle.mls_leaf.specs.declared.node.Node.{Node}
 use Rattle.mls_treemath.specs.Paths.{nodes_in}
@@ -24,9 +23,6 @@ cold_by h n xs hs is all = subst (Keeps 0 (term_of h xs)) (sym is) (cold_tree h 
 
 pub kept_long : (h : ℕ) (xs : List (Option Node)) (hs : List (Option (List ℕ))) → Keeps 0 (term_of h xs) hs → length hs ≡ nodes_in h
 kept_long h xs hs k = keeps_long 0 (term_of h xs) hs k ∙ size-term_of h xs
-
-pub all_long : (h : ℕ) (xs : List (Option Node)) (hs : List (Option (List ℕ))) → hs ≡ hashes_of 0 (term_of h xs) → length hs ≡ nodes_in h
-all_long h xs hs all = kept_long h xs hs (subst (Keeps 0 (term_of h xs)) (sym all) (keeps_all 0 (term_of h xs)))
 
 pub all_kept : (h : ℕ) (xs : List (Option Node)) (hs : List (Option (List ℕ))) → hs ≡ hashes_of 0 (term_of h xs) → Keeps 0 (term_of h xs) hs
 all_kept h xs hs all = subst (Keeps 0 (term_of h xs)) (sym all) (keeps_all 0 (term_of h xs))

@@ -1,5 +1,4 @@
 pub mod BesideLaws
-pub mod BlankLaws
 pub mod Cells
 pub mod ClientLaws
 pub mod FitLaws

@@ -1,5 +1,5 @@
 -- What the calls on a commit's path answer, case by case.
-use Rattle.std.proofs.Common.{◌≡◌, ℕ, ◌==◌, Bool, true, false, not, List, [], length, reverse, Option, Some, None, is_some, Ok, Err, refl, sym, ◌∙◌, ap, subst, nat_eq}
+use Rattle.std.proofs.Common.{◌≡◌, ℕ, ◌==◌, Bool, true, false, not, List, [], length, reverse, Option, Some, None, is_some, Ok, Err, refl, sym, ◌∙◌, ap, nat_eq}
 use Rattle.std.proofs.lemmas.Bool.{true≢false}
 use Rattle.std.specs.Borrow.{Bor}
 use Rattle.std.specs.Option.{option_copied}
@@ -15,10 +15,6 @@ use Rattle.mls_tree_model.specs.Way.{path_length}
 use Rattle.mls_tree_model.specs.Hashes.{is_some_bytes}
 use Rattle.mls_tree_model.specs.Keys.{encryption_keys}
 use Rattle.mls_tree_model.specs.Merge.{merge, path_hash, merge_path, path_parent_hash}
-use Rattle.mls_leaf.specs.declared.node.Node.{Node}
-use Rattle.mls_tree_model.specs.Arrays.{term_of, in_order}
-use Rattle.mls_tree_array.specs.StandingLaws.{StandsFor}
-use Rattle.mls_tree_array.proofs.MergingLaws.{stands_for-merge}
 use Rattle.mls_tree.specs.Paths.{path_checks, path_hash_answer, merge_checks, merge_answer}
 use Rattle.mls_tree_model.proofs.SetLaws.{same-pointwise}
 
@@ -27,10 +23,6 @@ use Rattle.mls_tree_model.proofs.SetLaws.{same-pointwise}
 pub merge_is : (t : Term) (i : ℕ) (x : LeafNode) (keys : List (List ℕ)) → merge 0 t i (reverse keys) [] x ≡ merge_path t i x keys
 unfolding merge_path
 merge_is t i x keys = refl
-
--- the list of a merged tree
-pub merged_stands : (h : ℕ) (xs ys : List (Option Node)) (i : ℕ) (x : LeafNode) (keys : List (List ℕ)) → ys ≡ in_order (merge 0 (term_of h xs) i (reverse keys) [] x) → StandsFor h ys (merge_path (term_of h xs) i x keys)
-merged_stands h xs ys i x keys is = subst (StandsFor h ys) (merge_is (term_of h xs) i x keys) (stands_for-merge h 0 i (reverse keys) [] x xs ys is)
 
 pub hash_is : (t : Term) (i : ℕ) (keys : List (List ℕ)) → path_hash 0 t i (reverse keys) [] ≡ path_parent_hash t i keys
 unfolding path_parent_hash

@@ -1,30 +1,21 @@
 -- Laws of indexes without the cells of a leaf's way: an edit of that leaf leaves them as they are.
-use Rattle.std.proofs.Common.{◌≡◌, ℕ, ◌+◌, ◌*◌, false, List, get_or, Option, None, refl, sym, ◌∙◌, ap, arith, inl, inr}
-use Rattle.std.proofs.lemmas.Bool.{cases_Bool}
+use Rattle.std.proofs.Common.{◌≡◌, ℕ, ◌+◌, ◌*◌, false, List, get_or, Option, None, sym, ◌∙◌, ap, arith}
 use Rattle.mls_leaf.specs.declared.leaf.LeafNode.{LeafNode}
 use Rattle.mls_leaf.specs.declared.node.Node.{Node}
 use Rattle.mls_tree_model.specs.Term.{Term}
 use Rattle.mls_tree_model.specs.Sets.{has}
-use Rattle.mls_tree_model.specs.Edits.{put, enter}
+use Rattle.mls_tree_model.specs.Edits.{put}
 use Rattle.mls_tree_model.specs.Merge.{merge}
 use Rattle.mls_tree_model.specs.Arrays.{term_of, in_order}
 use Rattle.mls_tree_model.proofs.ArrayLaws.{perfect-term_of}
-use Rattle.mls_tree_index.specs.declared.kind.KeyKind.{KeyKind}
-use Rattle.mls_tree_index.specs.Keys.{key_of, key_in}
+use Rattle.mls_tree_index.specs.Keys.{key_of}
 use Rattle.mls_tree_index.specs.Indexes.{Listing, Indexes}
-use Rattle.mls_tree_index.specs.BlankedCells.{cells_without, HasPlaces}
-use Rattle.mls_tree_index.proofs.CountLaws.{none_blank}
-use Rattle.mls_tree_index.proofs.ClearedLaws.{cleared_alike, key_cleared, key_left}
-use Rattle.mls_tree_index.proofs.Laws.{indexes_alike}
+use Rattle.mls_tree_index.specs.BlankedCells.{cells_without}
+use Rattle.mls_tree_index.proofs.ClearedLaws.{cleared_alike}
 use Rattle.mls_tree_array.specs.Standing.{Stands}
 use Rattle.mls_tree_array.specs.StandingLaws.{StandsFor}
 use Rattle.mls_tree.specs.Way.{way_numbers}
-use Rattle.mls_tree.proofs.BesideLaws.{StaysBeside, put_stays, enter_stays, merge_stays}
-use Rattle.mls_tree.proofs.BlankLaws.{put_blanks}
-
--- cells have their own keys in all places
-pub own_places : (k : KeyKind) (ns : List ℕ) (cells : List (Option Node)) → HasPlaces k ns cells cells
-own_places k ns cells = record { wide = refl; part = λ x some. refl; here = λ x h. refl }
+use Rattle.mls_tree.proofs.BesideLaws.{StaysBeside, put_stays, merge_stays}
 
 -- the list of an edited tree
 pub listed : (h : ℕ) (ys : List (Option Node)) (t : Term) → StandsFor h ys t → ys ≡ in_order t
@@ -35,12 +26,6 @@ module _ (h i : ℕ) (xs : List (Option Node)) (stands : Stands h xs) where
   cell_beside t stays y out =
       let at : 2 * 0 + y ≡ y = omega arith in
       stays y (ap (has (way_numbers h i)) at ∙ out) ∙ ap (λ zs. get_or zs y None) stands.order
-
-  pub cell_beside-put : (v : Option LeafNode) (y : ℕ) → has (way_numbers h i) y ≡ false → get_or (in_order (put 0 (term_of h xs) i v)) y None ≡ get_or xs y None
-  cell_beside-put v = cell_beside (put 0 (term_of h xs) i v) (put_stays h 0 (term_of h xs) i v (perfect-term_of h xs))
-
-  pub cell_beside-enter : (x : LeafNode) (y : ℕ) → has (way_numbers h i) y ≡ false → get_or (in_order (enter 0 (term_of h xs) i x)) y None ≡ get_or xs y None
-  cell_beside-enter x = cell_beside (enter 0 (term_of h xs) i x) (enter_stays h 0 (term_of h xs) i x (perfect-term_of h xs))
 
   pub cell_beside-merge : (ks : List (List ℕ)) (g : List ℕ) (x : LeafNode) (y : ℕ) → has (way_numbers h i) y ≡ false → get_or (in_order (merge 0 (term_of h xs) i ks g x)) y None ≡ get_or xs y None
   cell_beside-merge ks g x = cell_beside (merge 0 (term_of h xs) i ks g x) (merge_stays h 0 (term_of h xs) i ks g x (perfect-term_of h xs))
@@ -53,22 +38,5 @@ module _ (h i : ℕ) (xs : List (Option Node)) (stands : Stands h xs) where
     pub indexes-put : (v : Option LeafNode) → StandsFor h ys (put 0 (term_of h xs) i v) → Indexes (cells_without 0 (way_numbers h i) xs) t → Indexes (cells_without 0 (way_numbers h i) ys) t
     indexes-put v edited = indexes_beside _ edited (put_stays h 0 (term_of h xs) i v (perfect-term_of h xs))
 
-    pub indexes-enter : (x : LeafNode) → StandsFor h ys (enter 0 (term_of h xs) i x) → Indexes (cells_without 0 (way_numbers h i) xs) t → Indexes (cells_without 0 (way_numbers h i) ys) t
-    indexes-enter x edited = indexes_beside _ edited (enter_stays h 0 (term_of h xs) i x (perfect-term_of h xs))
-
     pub indexes-merge : (ks : List (List ℕ)) (g : List ℕ) (x : LeafNode) → StandsFor h ys (merge 0 (term_of h xs) i ks g x) → Indexes (cells_without 0 (way_numbers h i) xs) t → Indexes (cells_without 0 (way_numbers h i) ys) t
     indexes-merge ks g x edited = indexes_beside _ edited (merge_stays h 0 (term_of h xs) i ks g x (perfect-term_of h xs))
-
-  -- where the leaf is removed, nothing stands on its way
-  pub removed_key : (k : KeyKind) (y : ℕ) → key_in k (cells_without 0 (way_numbers h i) xs) y ≡ key_in k (in_order (put 0 (term_of h xs) i None)) y
-  removed_key k y = elim (cases_Bool (has (way_numbers h i) y)) [
-    | inl on ↦
-        let at : 2 * 0 + y ≡ y = omega arith in
-        key_cleared k (way_numbers h i) xs y on
-        ∙ sym (ap (key_of k) (put_blanks h 0 (term_of h xs) i (perfect-term_of h xs) y (ap (has (way_numbers h i)) at ∙ on)) ∙ none_blank k)
-    | inr out ↦ key_left k (way_numbers h i) xs y out ∙ sym (ap (key_of k) (cell_beside-put None y out))
-  ]
-
-  pub indexes-remove : (t : Listing) (ys : List (Option Node)) → StandsFor h ys (put 0 (term_of h xs) i None) → Indexes (cells_without 0 (way_numbers h i) xs) t → Indexes ys t
-  indexes-remove t ys edited =
-      indexes_alike t (cells_without 0 (way_numbers h i) xs) ys (λ y. removed_key t.kind y ∙ ap (λ zs. key_in t.kind zs y) (sym (listed h ys _ edited)))

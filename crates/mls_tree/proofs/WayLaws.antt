@@ -70,13 +70,6 @@ behind_way (suc h) b i x high =
       | inr ge ↦ ap (λ ns. has ns x) (numbers_right h b i ge) ∙ not_among _ _ x (λ e. absurd (omega arith)) (behind_way h (b + 2 ^ h) i x (omega arith))
     ]
 
--- each number is that of a node of the tree
-pub way_within : (h i x : ℕ) → has (way_numbers h i) x ≡ true → x < nodes_in h
-way_within h i x is = elim (cases_lt x (nodes_in h)) [
-  | inl lt ↦ lt
-  | inr ge ↦ absurd (true≢false (sym is ∙ behind_way h 0 i x (omega arith)))
-]
-
 distinct_first : (n : ℕ) (ns : List ℕ) → has ns n ≡ false → is_distinct nat_eq ns ≡ true → is_distinct nat_eq (n ∷ ns) ≡ true
 unfolding is_distinct
 distinct_first n ns out rest = and_from (count nat_eq n ns == 0) _ (eq-eqb (count nat_eq n ns) 0 (count_none ns n out)) rest
@@ -96,6 +89,3 @@ numbers_distinct (suc h) b i =
 
 pub way_distinct : (h i : ℕ) → is_distinct nat_eq (way_numbers h i) ≡ true
 way_distinct h i = numbers_distinct h 0 i
-
-pub length-way : (h i : ℕ) → length (way_numbers h i) ≡ suc h
-length-way h i = length-numbers h 0 i

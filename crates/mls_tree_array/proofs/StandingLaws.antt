@@ -8,10 +8,10 @@ use Rattle.mls_leaf.specs.declared.node.Node.{Node}
 use Rattle.mls_treemath.specs.Paths.{nodes_in}
 use Rattle.mls_treemath.proofs.Sizes.{nodes_in-zero, nodes_in-suc, nodes_in_up}
 use Rattle.mls_tree_model.specs.Term.{Term, Leaf, Branch, height, blanks, has_leaf, is_perfect}
-use Rattle.mls_tree_model.specs.Edits.{put, enter, grow, trim}
+use Rattle.mls_tree_model.specs.Edits.{grow, trim}
 use Rattle.mls_tree_model.specs.Arrays.{leaf_cell, parent_cell, term_of, in_order}
 use Rattle.mls_tree_model.proofs.Equations.{grow_is}
-use Rattle.mls_tree_model.proofs.ShapeLaws.{height-perfect, perfect-put, perfect-enter, perfect-grow, perfect-trim}
+use Rattle.mls_tree_model.proofs.ShapeLaws.{height-perfect, perfect-grow, perfect-trim}
 use Rattle.mls_tree_model.proofs.ArrayLaws.{perfect-term_of, length-in_order, size-perfect, term_of-in_order}
 use Rattle.mls_tree_array.specs.Standing.{Stands}
 use Rattle.mls_tree_array.specs.StandingLaws.{StandsFor}
@@ -83,12 +83,6 @@ in_order-grow h xs stands =
     ∙ ap (λ zs. xs ++ (None ∷ zs)) (in_order-blanks h)
 
 -- ---- so the list after an edit stands for the edited tree
-
-pub stands_for-put : (h b i : ℕ) (x : Option LeafNode) (xs ys : List (Option Node)) → ys ≡ in_order (put b (term_of h xs) i x) → StandsFor h ys (put b (term_of h xs) i x)
-stands_for-put h b i x xs ys is = stands_for h _ ys (perfect-put h b (term_of h xs) i x (perfect-term_of h xs)) is
-
-pub stands_for-enter : (h b i : ℕ) (x : LeafNode) (xs ys : List (Option Node)) → ys ≡ in_order (enter b (term_of h xs) i x) → StandsFor h ys (enter b (term_of h xs) i x)
-stands_for-enter h b i x xs ys is = stands_for h _ ys (perfect-enter h b (term_of h xs) i x (perfect-term_of h xs)) is
 
 pub stands_for-grow : (h : ℕ) (xs ys : List (Option Node)) → ys ≡ in_order (grow (term_of h xs)) → StandsFor (h + 1) ys (grow (term_of h xs))
 stands_for-grow h xs ys is = subst (λ k. StandsFor k ys (grow (term_of h xs))) (sym (add-one h)) (stands_for (suc h) _ ys (perfect-grow h (term_of h xs) (perfect-term_of h xs)) is)

@@ -202,17 +202,10 @@ own_pushed vs ws v is own none =
     ap are_shared is
     ∙ each_own (vs ++ v ∷ []) (all_pushed (λ (w : BlockNumbers). w.shared ≡ false) vs v own (own_each vs none))
 
-pub shared_at : (vs : List BlockNumbers) (b : ℕ) (v : BlockNumbers) → b < length vs → v ≡ get_or vs b v → v.shared ≡ true → are_shared vs ≡ true
-shared_at vs b v lt is on =
-    list_any_at (λ (w : BlockNumbers). w.shared) vs b v lt (sym (ap (λ (w : BlockNumbers). w.shared) is) ∙ on)
-
 share_at : (vs : List BlockNumbers) (b : ℕ) (v : BlockNumbers) → b < length vs → get_or (map (λ w. w.shared) vs) b true ≡ (get_or vs b v).shared
 share_at [] b v lt = absurd (omega arith)
 share_at (x ∷ vs) zero v lt = refl
 share_at (x ∷ vs) (suc b) v lt = share_at vs b v (omega arith)
-
-pub own_at : (vs : List BlockNumbers) (b : ℕ) (v : BlockNumbers) → b < length vs → v ≡ get_or vs b v → v.shared ≡ false → IsOwnAt vs b
-own_at vs b v lt is own = share_at vs b v lt ∙ sym (ap (λ (w : BlockNumbers). w.shared) is) ∙ own
 
 pub at_own : (vs : List BlockNumbers) (b : ℕ) (v : BlockNumbers) → b < length vs → v ≡ get_or vs b v → IsOwnAt vs b → v.shared ≡ false
 at_own vs b v lt is own = ap (λ (w : BlockNumbers). w.shared) is ∙ sym (share_at vs b v lt) ∙ own
@@ -270,10 +263,6 @@ blocks_only [] b v one are = are
 blocks_only (x ∷ []) zero v one are = are
 blocks_only (x ∷ []) (suc b) v one are = are
 blocks_only (x ∷ y ∷ bs) b v one are = absurd (omega arith)
-
-pub blocks_insert : (bs : List (List ℕ)) (b : ℕ) (v : List ℕ) → 0 < length v → AreBlocks bs → AreBlocks (insert bs (suc b) v)
-blocks_insert [] b v some are = absurd are
-blocks_insert (x ∷ bs) b v some are = all_insert (λ w. 0 < length w) bs b v some are
 
 pub blocks_remove : (bs : List (List ℕ)) (b : ℕ) → 1 < length bs → AreBlocks bs → AreBlocks (remove bs b)
 blocks_remove [] b more are = absurd are

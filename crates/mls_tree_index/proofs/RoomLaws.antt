@@ -58,10 +58,6 @@ room_spares : (shared : Bool) (bs : List (List ℕ)) (s : ℕ) → s ≤ room_of
 room_spares true bs s = omega arith
 room_spares false bs s = omega arith
 
-pub room_grows : (shared : Bool) (bs : List (List ℕ)) (s t : ℕ) → s ≤ t → room_of shared bs s ≤ room_of shared bs t
-room_grows true bs s t le = le
-room_grows false bs s t le = omega arith
-
 -- an edit takes so much room at most
 pub room_left : (n : ℕ) (was shared : Bool) (old new : List (List ℕ)) (s t : ℕ) → s ≤ n + t → (was ≡ false → shared ≡ false) → (was ≡ false → 2 * (s + least_free old) ≤ n + 2 * (t + least_free new)) → room_of was old s ≤ n + room_of shared new t
 room_left n true shared old new s t few own free = let rest = room_spares shared new t in omega arith
