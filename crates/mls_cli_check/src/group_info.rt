@@ -19,7 +19,7 @@ ghost use Rattle.mls_cli_check.specs.CheckFaults.{number_of, RefusesMessage};
 ghost use Rattle.mls_cli_check.specs.GroupInfo.{group_info_in, group_info_of, group_info_text, info_checks, info_report, page_then, sent_tree, signer_checks, signer_report, suite_among, suite_or_refusal, tree_or_refusal};
 
 use crate::check_error::CheckError;
-use crate::report::{refused, signature_word, tree_page};
+use crate::report::{refuse_behind, signature_word, tree_page};
 use mls_cli_text::{Ending, Field, Line, Page, append_line, line_of};
 use mls_leaf::{Codec, bytes_or_out_of_memory};
 use mls_suite::{Suite, verify_with_label};
@@ -126,7 +126,7 @@ fn with_signer<S: Suite>(
                 ending: Ending::Good,
             })
         }
-        Err(error) => refused(lines, error),
+        Err(error) => refuse_behind(lines, error),
     }
 }
 
@@ -152,7 +152,7 @@ fn with_info_checks<S: Suite>(
         (info_checks S.crypto info.now (term tree.old))) }
 {
     if !has_tree_hash(info, tree) {
-        return refused(lines, CheckError::TreeHashWrong);
+        return refuse_behind(lines, CheckError::TreeHashWrong);
     }
     let lines = append_line(lines, line_of("tree_hash matches", Field::Word("ok")))?;
     with_signer::<S>(alloc, lines, info, tree)
@@ -201,7 +201,7 @@ fn info_page<S: Suite>(alloc: Global, info: &GroupInfo) -> Result<Page<Line>, Al
 {
     match sent_tree(info) {
         Ok(mut tree) => tree_and_info_page::<S>(alloc, info, &mut tree),
-        Err(error) => refused(Vec::new(alloc), error),
+        Err(error) => refuse_behind(Vec::new(alloc), error),
     }
 }
 
@@ -221,7 +221,7 @@ fn page_of_info<S: Suite, T: Suite>(
     } else if suite == T::NUMBER {
         info_page::<T>(alloc, info)
     } else {
-        refused(Vec::new(alloc), CheckError::WrongSuite)
+        refuse_behind(Vec::new(alloc), CheckError::WrongSuite)
     }
 }
 
@@ -241,6 +241,6 @@ pub fn group_info_text<S: Suite, T: Suite>(
 {
     match group_info_in(alloc, bytes) {
         Ok(info) => page_of_info::<S, T>(alloc, &info),
-        Err(error) => refused(Vec::new(alloc), error),
+        Err(error) => refuse_behind(Vec::new(alloc), error),
     }
 }

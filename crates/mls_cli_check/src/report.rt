@@ -21,7 +21,7 @@ use mls_tree::{PublicTree, TreeError};
 use std::alloc::{AllocError, Global};
 
 /// The lines, and the refusal behind them; where it is want of memory, that.
-pub(crate) fn refused(lines: Vec<Line>, error: CheckError) -> Result<Page<Line>, AllocError>
+pub(crate) fn refuse_behind(lines: Vec<Line>, error: CheckError) -> Result<Page<Line>, AllocError>
     ensures memory { IfOk result (λ page. number_of error ≢ 1) }
     ensures page { MakesPage result (page_behind (entries_of lines) (refused (number_of error))) }
     // Each refusal but `OutOfMemory` (1) gives a page.
@@ -123,7 +123,7 @@ pub(crate) fn tree_page<S: Suite>(
         }
         Err(error) => {
             let more = rule_lines::<S>(alloc, lines_before(error))?;
-            refused(append_lines(lines, more)?, CheckError::Tree(error))
+            refuse_behind(append_lines(lines, more)?, CheckError::Tree(error))
         }
     }
 }
@@ -142,7 +142,7 @@ fn bytes_page<S: Suite>(
 {
     match tree_in(alloc, bytes) {
         Ok(mut tree) => tree_page::<S>(alloc, &mut tree, group_id),
-        Err(error) => refused(Vec::new(alloc), error),
+        Err(error) => refuse_behind(Vec::new(alloc), error),
     }
 }
 

@@ -15,17 +15,17 @@ name_told n =
     else name_in names_of_application_messages n
 
 -- the first of so many numbers, from k on, that has this name
-unfoldable pub named_from : ℕ → ℕ → List ℕ → Option ℕ
-named_from zero k name = None
-named_from (suc n) k name = if bytes_eq name (name_told k) then Some k else named_from n (k + 1) name
+unfoldable pub number_from : ℕ → ℕ → List ℕ → Option ℕ
+number_from zero k name = None
+number_from (suc n) k name = if bytes_eq name (name_told k) then Some k else number_from n (k + 1) name
 
 -- the numbers of refusals are below this
 abbrev pub end_of_numbers : ℕ
 end_of_numbers = 120
 
 -- the refusal of this name
-abbrev pub named : List ℕ → Option ℕ
-named name = named_from end_of_numbers 0 name
+abbrev pub number_of_name : List ℕ → Option ℕ
+number_of_name name = number_from end_of_numbers 0 name
 
 abbrev pub told_entries : ℕ → Told → List Entry
 told_entries n told =
@@ -43,4 +43,4 @@ told_by_number n = option_map (λ (told : Told). (n, told)) (explanation n)
 -- by a number, or else by a name; numbers of refusals are below 256
 abbrev pub told_by : Option ℕ → List ℕ → Option (ℕ × Told)
 told_by (Some n) name = if nat_lt n 256 then told_by_number n else None
-told_by None name = option_and_then told_by_number (named name)
+told_by None name = option_and_then told_by_number (number_of_name name)

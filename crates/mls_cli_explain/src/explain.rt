@@ -2,7 +2,7 @@
 
 ghost use Rattle.std.specs.Prelude.{◌≡◌, option_map};
 ghost use Rattle.mls_cli_text.specs.Page.{MakesPage};
-ghost use Rattle.mls_cli_explain.specs.Explain.{named, name_told, told_by, told_by_number, told_page};
+ghost use Rattle.mls_cli_explain.specs.Explain.{number_of_name, name_told, told_by, told_by_number, told_page};
 ghost use Rattle.mls_cli_explain.specs.Explanations.{explanation_view};
 
 use crate::application_messages::name_of_application_message;
@@ -27,9 +27,9 @@ fn name_told(number: u8) -> &'static str
 }
 
 /// The number of the refusal with this name, or None where none has it.
-#[tactic(auto, unfolding(crate::specs::Explain::named_from))]
-fn named(name: &str) -> Option<u8>
-    ensures { result ≡ named name.now }
+#[tactic(auto, unfolding(crate::specs::Explain::number_from))]
+fn number_of_name(name: &str) -> Option<u8>
+    ensures { result ≡ number_of_name name.now }
 {
     for number in 0..END_OF_NUMBERS {
         if name == name_told(number) {
@@ -61,7 +61,7 @@ pub fn told_by(number: Option<usize>, name: &str) -> Option<(u8, Explanation)>
                 None
             }
         }
-        None => told_by_number(named(name)?),
+        None => told_by_number(number_of_name(name)?),
     }
 }
 

@@ -1,5 +1,6 @@
 //! Events in short forms.
 
+use mls_leaf::{Bytes, Extension};
 use mls_model::{Event, Source, WorldItem};
 use std::alloc::{AllocError, Global};
 
@@ -34,6 +35,10 @@ pub enum Act {
     Remove {
         member: usize,
         leaf: u32,
+    },
+    /// Two extensions of types for private use are proposed for the group.
+    Extensions {
+        member: usize,
     },
     Commit {
         member: usize,
@@ -107,6 +112,19 @@ fn commit_event(
     })
 }
 
+/// An extension of a type.
+fn extension(alloc: Global, kind: u16) -> Result<Extension, AllocError> {
+    let content = Bytes::from_slice(alloc, &[5, 6])?;
+    Ok(Extension { kind, content })
+}
+
+fn extensions_event(alloc: Global, member: usize) -> Result<Event, AllocError> {
+    let mut extensions = Vec::new(alloc);
+    extensions.push(extension(alloc, 0xf000)?)?;
+    extensions.push(extension(alloc, 0xffff)?)?;
+    Ok(Event::ProposeExtensions { member, extensions })
+}
+
 /// The event that an act stands for.
 pub fn event_of(alloc: Global, act: Act) -> Result<Event, AllocError> {
     match act {
@@ -117,6 +135,7 @@ pub fn event_of(alloc: Global, act: Act) -> Result<Event, AllocError> {
             seed: [seed; 32],
         }),
         Act::Remove { member, leaf } => Ok(Event::ProposeRemove { member, leaf }),
+        Act::Extensions { member } => extensions_event(alloc, member),
         Act::Commit {
             member,
             parts,

@@ -80,10 +80,10 @@ pub fn all_changes(
     message: &[u8],
     tally: &mut Tally,
 ) -> Result<()> {
-    let before = tally.taken();
+    let before = tally.taken_count();
     all_bits(alloc, trial, message, tally)?;
     all_lengths(alloc, trial, message, tally)?;
-    if trial.is_member() && tally.taken() != before {
+    if trial.is_member() && tally.taken_count() != before {
         bail!("a member took a changed message");
     }
     Ok(())

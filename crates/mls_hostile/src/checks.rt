@@ -5,7 +5,7 @@ use crate::changes::turn_bits;
 use crate::forgery::{Committed, path_secret};
 use crate::groups;
 use crate::outcome::Outcome;
-use crate::pieces::{check_limit, joined, replace_text, without_last};
+use crate::pieces::{check_limit, concatenate, replace_text, without_last};
 use crate::stage::{Receiver, Stage};
 use anyhow::{Result, bail};
 use mls_kdf::{Secret, Seed};
@@ -43,7 +43,7 @@ fn three_after(alloc: Global, count: usize) -> Result<Box<Stage>> {
 const SEED: Seed = [8; 32];
 
 /// The stage of three after the first committed nothing and followed that: message 5 is the commit.
-fn three_committed(alloc: Global) -> Result<Box<Stage>> {
+fn three_after_commit(alloc: Global) -> Result<Box<Stage>> {
     let commit = Act::Commit {
         member: 0,
         parts: Parts::Nothing,
@@ -89,7 +89,7 @@ fn with_secret(alloc: Global, before: &Stage, after: &Stage, secret: &Secret) ->
 }
 
 /// What a member answers to bytes, and whether all that can be seen of it is as before.
-fn answered(
+fn give_and_compare(
     alloc: Global,
     stage: &mut Stage,
     to: Receiver,
@@ -110,7 +110,7 @@ fn is_made_alike(alloc: Global, before: &Stage, after: &Stage) -> Result<bool> {
 /// The commit of the first of three, which seals zeros to the second, and whether with the right secret it is the one
 /// that the committer makes.
 fn commit_with_zeros(alloc: Global, before: &Stage) -> Result<(Vec<u8>, bool)> {
-    let after = three_committed(alloc)?;
+    let after = three_after_commit(alloc)?;
     let is_alike = is_made_alike(alloc, before, &after)?;
     let zeros = with_secret(alloc, before, &after, &[0; 32])?;
     Ok((zeros, is_alike))
@@ -120,7 +120,7 @@ fn commit_with_zeros(alloc: Global, before: &Stage) -> Result<(Vec<u8>, bool)> {
 pub fn forged_answers(alloc: Global) -> Result<ForgedAnswers> {
     let mut stage = three_with(alloc, &[])?;
     let (zeros, is_made_alike) = commit_with_zeros(alloc, &stage)?;
-    let (second, is_same) = answered(alloc, &mut stage, Receiver::Member(1), &zeros)?;
+    let (second, is_same) = give_and_compare(alloc, &mut stage, Receiver::Member(1), &zeros)?;
     let third = stage.give(alloc, Receiver::Member(2), &zeros)?;
     Ok(ForgedAnswers {
         is_made_alike,
@@ -212,7 +212,7 @@ pub fn answer_elsewhere(alloc: Global) -> Result<(Outcome, bool)> {
     let mut stage = three_with(alloc, &[Act::Update { member: 1, seed: 6 }])?;
     create_elsewhere(alloc, &mut stage)?;
     let update = Vec::from_slice(alloc, stage.message(5)?)?;
-    answered(alloc, &mut stage, Receiver::Member(3), &update)
+    give_and_compare(alloc, &mut stage, Receiver::Member(3), &update)
 }
 
 /// Where in a leaf of a name of one byte the low byte of the only suite stands that it lists, behind two keys, the
@@ -228,13 +228,13 @@ fn incapable_leaf(alloc: Global, candidate: &Candidate<Glass>) -> Result<Vec<u8>
     let content = check_limit(without_last(&leaf, SIGNATURE + 1))?;
     let signing = candidate.signing_key();
     let signature = sign_with_label::<Glass>(alloc, signing, "LeafNodeTBS", content)?;
-    joined(alloc, &[content, &[32], &signature])
+    concatenate(alloc, &[content, &[32], &signature])
 }
 
 /// The bytes of a leaf with a signature that isn't its own.
 fn unsigned_leaf(alloc: Global, candidate: &Candidate<Glass>) -> Result<Vec<u8>> {
     let own = candidate.leaf_node().encode(alloc)?;
-    joined(alloc, &[without_last(&own, SIGNATURE), &[0; SIGNATURE]])
+    concatenate(alloc, &[without_last(&own, SIGNATURE), &[0; SIGNATURE]])
 }
 
 /// The proposal to add a candidate with another leaf.

@@ -2,7 +2,7 @@
 
 ghost use Rattle.std.specs.Prelude.{◌<◌, ◌^◌, length, IfOk};
 
-use crate::pieces::{check_limit, joined, last_bytes, place_of, with_text, without_last};
+use crate::pieces::{check_limit, concatenate, last_bytes, place_of, with_text, without_last};
 use anyhow::{Result, bail};
 use mls_kdf::{Secret, Seed, derive_secret, expand_with_label};
 use mls_schedule::Epoch;
@@ -51,7 +51,7 @@ impl<'a> Committed<'a> {
     {
         let front = without_last(self.after.context_bytes(), HASH);
         let hash = last_bytes(self.before.context_bytes(), HASH);
-        joined(alloc, &[front, hash])
+        concatenate(alloc, &[front, hash])
     }
 
     /// The content that was made.
@@ -87,14 +87,14 @@ impl<'a> Committed<'a> {
     }
 
     fn signature(&self, alloc: Global, content: &[u8]) -> Result<Vec<u8>> {
-        let text = joined(alloc, &[&FRONT, content, self.before.context_bytes()])?;
+        let text = concatenate(alloc, &[&FRONT, content, self.before.context_bytes()])?;
         Ok(sign_with_label::<Glass>(alloc, self.signing, "FramedContentTBS", &text)?)
     }
 
     /// The confirmation tag of the epoch that the commit would begin.
     fn confirmation_tag(&self, alloc: Global, confirmed: &Secret) -> Result<Secret> {
         let front = without_last(self.after.context_bytes(), HASH);
-        let context = joined(alloc, &[front, &[32], confirmed, &[0]])?;
+        let context = concatenate(alloc, &[front, &[32], confirmed, &[0]])?;
         let init = self.before.secrets().init_secret();
         let commit_secret = path_secret(self.seed, self.nodes);
         let start = Epoch::next(init, &commit_secret, &context);
@@ -114,12 +114,12 @@ impl<'a> Committed<'a> {
         let transcript = self.before.group().transcript();
         let confirmed = transcript.confirm(1, &content, check_limit(&signature)?);
         let tag = self.confirmation_tag(alloc, &confirmed)?;
-        let auth = joined(alloc, &[&[32], &signature, &[32], &tag])?;
+        let auth = concatenate(alloc, &[&[32], &signature, &[32], &tag])?;
         let context = self.before.context_bytes();
         let membership = self
             .before
             .secrets()
             .membership_tag(&[&FRONT, &content, context, &auth]);
-        joined(alloc, &[&FRONT, &content, &auth, &[32], &membership])
+        concatenate(alloc, &[&FRONT, &content, &auth, &[32], &membership])
     }
 }

@@ -3,7 +3,7 @@
 use crate::acts::{Act, Parts};
 use std::alloc::{AllocError, Global};
 
-fn candidate_named(name: u8, seed: u8) -> Act {
+fn candidate(name: u8, seed: u8) -> Act {
     Act::Candidate { name, seed }
 }
 
@@ -35,9 +35,9 @@ fn additions_from(first: usize, count: usize) -> Parts {
 /// One member adds another in full, with a path: message 2 is the commit, 3 the Welcome.
 pub fn pair(alloc: Global) -> Result<Vec<Act>, AllocError> {
     Ok(vec![in alloc;
-        candidate_named(b'a', 1),
+        candidate(b'a', 1),
         create(2),
-        candidate_named(b'b', 3),
+        candidate(b'b', 3),
         commit(0, additions_from(1, 1), true, 4),
         deliver(0, 2),
         join(1, 3),
@@ -47,10 +47,10 @@ pub fn pair(alloc: Global) -> Result<Vec<Act>, AllocError> {
 /// One member adds two in full, with a path: message 3 is the commit, 4 the Welcome.
 pub fn three(alloc: Global) -> Result<Vec<Act>, AllocError> {
     Ok(vec![in alloc;
-        candidate_named(b'a', 1),
+        candidate(b'a', 1),
         create(2),
-        candidate_named(b'b', 3),
-        candidate_named(b'c', 4),
+        candidate(b'b', 3),
+        candidate(b'c', 4),
         commit(0, additions_from(1, 2), true, 5),
         deliver(0, 3),
         join(1, 4),
@@ -90,16 +90,38 @@ pub fn removal(alloc: Global) -> Result<Vec<Act>, AllocError> {
     Ok(acts)
 }
 
+/// Of three the second proposes extensions for the group (message 5), which the first commits by its reference (message
+/// 6); then the third adds a fourth, with a path (commit 8, Welcome 9).
+pub fn extensions(alloc: Global) -> Result<Vec<Act>, AllocError> {
+    let mut acts = three(alloc)?;
+    acts.extend_from_slice(&[
+        Act::Extensions { member: 1 },
+        deliver(0, 5),
+        deliver(2, 5),
+        commit(0, Parts::Named(5), false, 6),
+        deliver(0, 6),
+        deliver(1, 6),
+        deliver(2, 6),
+        candidate(b'd', 7),
+        commit(2, additions_from(7, 1), true, 8),
+        deliver(2, 8),
+        deliver(0, 8),
+        deliver(1, 8),
+        join(3, 9),
+    ])?;
+    Ok(acts)
+}
+
 /// One member adds four without a path (commit 6, Welcome 7) and removes the fourth member (8).
 fn add_four_and_remove(alloc: Global) -> Result<Vec<Act>, AllocError> {
     Ok(vec![in alloc;
-        candidate_named(b'a', 1),
+        candidate(b'a', 1),
         create(2),
-        candidate_named(b'b', 3),
-        candidate_named(b'c', 4),
-        candidate_named(b'd', 5),
-        candidate_named(b'e', 6),
-        candidate_named(b'f', 7),
+        candidate(b'b', 3),
+        candidate(b'c', 4),
+        candidate(b'd', 5),
+        candidate(b'e', 6),
+        candidate(b'f', 7),
         commit(0, additions_from(1, 4), false, 8),
         deliver(0, 6),
         join(1, 7),

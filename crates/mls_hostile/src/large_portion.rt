@@ -10,7 +10,7 @@ use std::alloc::{AllocError, Global};
 use std::io::Print;
 
 /// What an act is answered, which has to be this.
-fn answered(stage: &mut Stage, alloc: Global, act: Act, due: Outcome) -> Result<()> {
+fn check_answer(stage: &mut Stage, alloc: Global, act: Act, due: Outcome) -> Result<()> {
     let event = event_of(alloc, act)?;
     let answer = stage.answer(&event);
     drop(event);
@@ -30,7 +30,7 @@ fn deliver(
     due: Outcome,
 ) -> Result<()> {
     for member in members.0..members.1 {
-        answered(stage, alloc, Act::Deliver { member, message }, due)?;
+        check_answer(stage, alloc, Act::Deliver { member, message }, due)?;
     }
     Ok(())
 }
@@ -45,7 +45,7 @@ fn join(
 ) -> Result<()> {
     for candidate in candidates.0..candidates.1 {
         let due = Outcome::Joined(epoch);
-        answered(stage, alloc, Act::Join { candidate, message }, due)?;
+        check_answer(stage, alloc, Act::Join { candidate, message }, due)?;
     }
     Ok(())
 }

@@ -153,12 +153,12 @@ impl Tally {
         self.places.as_slice()
     }
 
-    pub fn taken(&self) -> u64 {
+    pub fn taken_count(&self) -> u64 {
         self.taken
     }
 
     /// Each number with how often it was answered.
-    pub fn refused(&self) -> &[u64] {
+    pub fn refusal_counts(&self) -> &[u64] {
         self.refused.as_slice()
     }
 }

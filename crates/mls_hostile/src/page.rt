@@ -14,57 +14,61 @@ struct Page {
 }
 
 impl Page {
-    fn entry(&mut self, bytes: &[u8]) -> Result<(), AllocError> {
+    fn add_entry(&mut self, bytes: &[u8]) -> Result<(), AllocError> {
         self.bytes.extend_from_slice(&bytes.len().to_be_bytes())?;
         self.bytes.extend_from_slice(bytes)?;
         Ok(())
     }
 
-    fn optional(&mut self, bytes: Option<&[u8]>) -> Result<(), AllocError> {
+    fn add_optional(&mut self, bytes: Option<&[u8]>) -> Result<(), AllocError> {
         match bytes {
-            Some(bytes) => self.entry(bytes),
-            None => self.entry(b"none"),
+            Some(bytes) => self.add_entry(bytes),
+            None => self.add_entry(b"none"),
         }
     }
 
-    fn secrets(&mut self, epoch: &Epoch) -> Result<(), AllocError> {
+    fn add_secrets(&mut self, epoch: &Epoch) -> Result<(), AllocError> {
         let secrets = epoch.secrets();
         for secret in &secrets {
-            self.entry(secret)?;
+            self.add_entry(secret)?;
         }
         Ok(())
     }
 
-    fn numbers(&mut self, member: &Member<Glass>) -> Result<(), AllocError> {
-        self.entry(&[u8::from(member.is_gone())])?;
-        self.entry(&member.epoch().to_be_bytes())?;
-        self.entry(&member.leaf_index().to_be_bytes())
+    fn add_numbers(&mut self, member: &Member<Glass>) -> Result<(), AllocError> {
+        self.add_entry(&[u8::from(member.is_gone())])?;
+        self.add_entry(&member.epoch().to_be_bytes())?;
+        self.add_entry(&member.leaf_index().to_be_bytes())
     }
 
-    fn public_state(&mut self, member: &Member<Glass>) -> Result<()> {
-        self.entry(member.group_id())?;
-        self.entry(member.context_bytes())?;
-        self.entry(&member.tree_bytes()?)?;
-        self.entry(member.confirmed_transcript_hash())?;
-        self.entry(member.interim_transcript_hash())?;
+    fn add_public_state(&mut self, member: &Member<Glass>) -> Result<()> {
+        self.add_entry(member.group_id())?;
+        self.add_entry(member.context_bytes())?;
+        self.add_entry(&member.tree_bytes()?)?;
+        self.add_entry(member.confirmed_transcript_hash())?;
+        self.add_entry(member.interim_transcript_hash())?;
         Ok(())
     }
 
-    fn keys(&mut self, member: &Member<Glass>) -> Result<(), AllocError> {
+    fn add_keys(&mut self, member: &Member<Glass>) -> Result<(), AllocError> {
         for (node, key) in member.held_keys()? {
-            self.entry(&node.to_be_bytes())?;
-            self.entry(&key)?;
+            self.add_entry(&node.to_be_bytes())?;
+            self.add_entry(&key)?;
         }
         Ok(())
     }
 
-    fn kept(&mut self, member: &Member<Glass>, references: &[Secret]) -> Result<(), AllocError> {
+    fn add_kept(
+        &mut self,
+        member: &Member<Glass>,
+        references: &[Secret],
+    ) -> Result<(), AllocError> {
         for reference in references {
-            self.optional(member.kept_message(reference))?;
+            self.add_optional(member.kept_message(reference))?;
         }
         match member.pending_secret() {
-            Some(secret) => self.entry(secret),
-            None => self.entry(b"none"),
+            Some(secret) => self.add_entry(secret),
+            None => self.add_entry(b"none"),
         }
     }
 }
@@ -74,10 +78,10 @@ pub fn page_of(alloc: Global, member: &Member<Glass>, references: &[Secret]) -> 
     let mut page = Page {
         bytes: Vec::new(alloc),
     };
-    page.numbers(member)?;
-    page.public_state(member)?;
-    page.secrets(member.secrets())?;
-    page.keys(member)?;
-    page.kept(member, references)?;
+    page.add_numbers(member)?;
+    page.add_public_state(member)?;
+    page.add_secrets(member.secrets())?;
+    page.add_keys(member)?;
+    page.add_kept(member, references)?;
     Ok(page.bytes)
 }

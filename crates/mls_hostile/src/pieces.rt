@@ -18,7 +18,7 @@ pub fn check_limit(bytes: &[u8]) -> Result<&[u8]>
 }
 
 /// Pieces one after another.
-pub fn joined(alloc: Global, pieces: &[&[u8]]) -> Result<Vec<u8>>
+pub fn concatenate(alloc: Global, pieces: &[&[u8]]) -> Result<Vec<u8>>
     ensures { IfOk result (λ v. length v.items < 2 ^ 30) }
 {
     let mut bytes = Vec::new(alloc);
@@ -60,7 +60,7 @@ pub fn with_text(alloc: Global, bytes: &[u8], place: usize, text: &[u8]) -> Resu
     }
     let (front, _) = bytes.split_at(place);
     let (_, rest) = bytes.split_at(end);
-    joined(alloc, &[front, text, rest])
+    concatenate(alloc, &[front, text, rest])
 }
 
 /// The bytes with a text in the place of another, where that stands first.
@@ -68,5 +68,5 @@ pub fn replace_text(alloc: Global, bytes: &[u8], old: &[u8], new: &[u8]) -> Resu
     let place = place_of(bytes, old)?;
     let rest = bytes.len().saturating_sub(place).saturating_sub(old.len());
     let front = without_last(bytes, bytes.len().saturating_sub(place));
-    joined(alloc, &[front, new, last_bytes(bytes, rest)])
+    concatenate(alloc, &[front, new, last_bytes(bytes, rest)])
 }

@@ -44,7 +44,7 @@ pub struct Stage {
 }
 
 /// A refusal that isn't want of memory.
-fn refused(number: u8) -> Result<Outcome> {
+fn refusal(number: u8) -> Result<Outcome> {
     if number == 1 {
         bail!("out of memory");
     }
@@ -206,11 +206,11 @@ impl Stage {
         let source = Source::Given(Vec::from_slice(alloc, bytes)?);
         match self.world.deliver(member, &source) {
             Ok(effect) => Ok(Outcome::of(effect)),
-            Err(error) => refused(error.number()),
+            Err(error) => refusal(error.number()),
         }
     }
 
-    fn joined(&self, alloc: Global, candidate: usize, bytes: &[u8]) -> Result<Outcome> {
+    fn join_bytes(&self, alloc: Global, candidate: usize, bytes: &[u8]) -> Result<Outcome> {
         let candidate = self.candidate(candidate)?;
         match Member::join(alloc, candidate, bytes) {
             Ok(joined) => {
@@ -218,7 +218,7 @@ impl Stage {
                 drop(joined);
                 Ok(Outcome::Joined(epoch))
             }
-            Err(error) => refused(error.number()),
+            Err(error) => refusal(error.number()),
         }
     }
 
@@ -226,7 +226,7 @@ impl Stage {
     pub fn give(&mut self, alloc: Global, to: Receiver, bytes: &[u8]) -> Result<Outcome> {
         match to {
             Receiver::Member(k) => self.deliver_bytes(alloc, k, bytes),
-            Receiver::Candidate(n) => self.joined(alloc, n, bytes),
+            Receiver::Candidate(n) => self.join_bytes(alloc, n, bytes),
         }
     }
 

@@ -31,7 +31,7 @@ impl<'a> Trial<'a> {
     }
 
     /// Gives bytes: after a refusal all is as it was seen before.
-    fn give_checked(&mut self, alloc: Global, bytes: &[u8], before: &[u8]) -> Result<Outcome> {
+    fn give_and_check(&mut self, alloc: Global, bytes: &[u8], before: &[u8]) -> Result<Outcome> {
         let outcome = self.stage.give(alloc, self.state.of, bytes)?;
         if outcome.is_refused() {
             let after = self.current_page(alloc)?;
@@ -45,13 +45,13 @@ impl<'a> Trial<'a> {
     /// Gives bytes, before any were taken.
     pub fn give(&mut self, alloc: Global, bytes: &[u8]) -> Result<Outcome> {
         let state = self.state;
-        self.give_checked(alloc, bytes, &state.page)
+        self.give_and_check(alloc, bytes, &state.page)
     }
 
     /// Gives bytes once more, whatever the first time did.
     pub fn give_again(&mut self, alloc: Global, bytes: &[u8]) -> Result<Outcome> {
         let before = self.current_page(alloc)?;
-        self.give_checked(alloc, bytes, &before)
+        self.give_and_check(alloc, bytes, &before)
     }
 
     /// Whether it is a member's.

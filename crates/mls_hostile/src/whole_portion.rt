@@ -12,12 +12,12 @@ use std::io::Print;
 
 /// How often each number was answered.
 fn print_tally(rt: &impl Print, tally: &Tally) -> Result<()> {
-    for (number, count) in tally.refused().iter().enumerate() {
+    for (number, count) in tally.refusal_counts().iter().enumerate() {
         if *count > 0 {
             print!(rt; " {number}: {count},")?;
         }
     }
-    let taken = tally.taken();
+    let taken = tally.taken_count();
     println!(rt; " taken: {taken}")?;
     for run in tally.places() {
         println!(rt; "    bytes {run}")?;
@@ -60,5 +60,11 @@ pub fn run(rt: &impl Print, alloc: Global) -> Result<()> {
     print_group(rt, alloc, "a pair", groups::pair(alloc)?)?;
     print_group(rt, alloc, "an update among three", groups::update(alloc)?)?;
     print_group(rt, alloc, "a removal among three", groups::removal(alloc)?)?;
+    print_group(
+        rt,
+        alloc,
+        "extensions among three",
+        groups::extensions(alloc)?,
+    )?;
     print_group(rt, alloc, "four adds", groups::four_adds(alloc)?)
 }

@@ -58,7 +58,7 @@ fn push_added(alloc: Global, adds: &mut Vec<Bytes>, proposal: &Proposal) -> Resu
 }
 
 /// The KeyPackages, as bytes, that a commit of a list adds: none where a reference isn't kept.
-pub(crate) fn added_by<S: Suite>(
+pub(crate) fn adds_of<S: Suite>(
     alloc: Global,
     member: &Member<S>,
     items: &[Item],

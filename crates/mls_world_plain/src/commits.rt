@@ -8,7 +8,7 @@ ghost use Rattle.mls_world_plain.specs.EarlyChecks.{early_commit_checks, Refuses
 ghost use Rattle.mls_world_plain.specs.CallAnswers.{Commits, DropsPending};
 ghost use Rattle.mls_world_plain.specs.CommitParts.{welcome_with_number, CommitsList, ForgetsPending, HasNothingPending, IsPendingEpoch, NamesList, RecordsCommit, TellsPending};
 
-use crate::commit_adds::added_by;
+use crate::commit_adds::adds_of;
 use crate::commit_names::names_in;
 use crate::entry::Entry;
 use crate::error::WorldError;
@@ -54,7 +54,7 @@ fn welcome_with_number(
 impl<S: Suite> PlainWorld<S> {
     /// What a list names and adds, by what member k keeps.
     #[tactic(auto, using(crate::proofs::Stores::seat_found))]
-    fn named(&self, k: usize, list: &[Item]) -> Result<Named, WorldError>
+    fn names_and_adds(&self, k: usize, list: &[Item]) -> Result<Named, WorldError>
         requires there { k < length self.now.seats }
         requires short { AreShortItems list.now }
         ensures named { IfOk result (λ n. NamesList self.now k list.now n) }
@@ -62,7 +62,7 @@ impl<S: Suite> PlainWorld<S> {
     {
         let seat = &self.seats[k];
         let names = names_in(self.alloc, &seat.member, list)?;
-        let adds = added_by(self.alloc, &seat.member, list)?;
+        let adds = adds_of(self.alloc, &seat.member, list)?;
         Ok(Named { names, adds })
     }
 
@@ -172,7 +172,7 @@ impl<S: Suite> PlainWorld<S> {
             Ok(list) => list,
             Err(error) => return Err(error),
         };
-        let named = self.named(member, &list)?;
+        let named = self.names_and_adds(member, &list)?;
         let made = match self.commit_by(member, &list, path, seed) {
             Ok(made) => made,
             Err(error) => return Err(error),

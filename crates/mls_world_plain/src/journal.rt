@@ -118,7 +118,7 @@ impl Journals {
 
     /// The number of the journal that members share who follow an entry from journal `before`, if there is one.
     #[tactic(auto, using(crate::proofs::Following::shared_there, crate::proofs::Following::other_follower, crate::proofs::Following::no_follower))]
-    fn shared(&self, before: usize, entry: &Entry) -> Option<usize>
+    fn find_shared(&self, before: usize, entry: &Entry) -> Option<usize>
         requires { before < length self.now.list }
         ensures { AnswersShared self.now before entry.now result }
     {
@@ -144,7 +144,7 @@ impl Journals {
         ensures more { AreMore self.old.list self.new.list }
         ensures follows { Follows self.old before entry self.new result }
     {
-        match self.shared(before, &entry) {
+        match self.find_shared(before, &entry) {
             Some(number) => number,
             None => {
                 let number = self.add(JournalStep::Followed { before, entry });

@@ -8,7 +8,7 @@ use Rattle.mls_cli_check.proofs.group_info.with_info_checks.Goals as goal
 pub returns-then-not-has_tree_hash : goal.returns-then-not-has_tree_hash
 returns-then-not-has_tree_hash g c =
     let other : bytes_eq c.args.info.now.group_context.tree_hash (tree_hash 0 (term c.args.tree.now)) ≡ false = search rules in
-    refused_or_wanting _ _ _ c.refused.result c.refused.ensures.memory c.refused.ensures.page (λ ne. hash_differs g.S.Suite.crypto c.args.info.now (term c.args.tree.now) other)
+    refused_or_wanting _ _ _ c.refuse_behind.result c.refuse_behind.ensures.memory c.refuse_behind.ensures.page (λ ne. hash_differs g.S.Suite.crypto c.args.info.now (term c.args.tree.now) other)
 
 pub returns : goal.returns
 returns g c =

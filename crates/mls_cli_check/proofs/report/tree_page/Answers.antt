@@ -9,4 +9,4 @@ returns-in_ok-append_lines-in-Ok-clause-page g c =
 
 pub returns-in_ok-append_lines-in-Err-clause-page : goal.returns-in_ok-append_lines-in-Err-clause-page
 returns-in_ok-append_lines-in-Err-clause-page g c =
-    lines_or_wanting g.S.Suite.crypto _ _ _ _ _ _ _ _ c.refused.ensures.memory c.refused.ensures.page c.in-Err.ensures.answer c.in_ok-lines.ensures.same c.in_ok-append_lines-in-Err.ensures c.in_ok-lines.ensures.lines (c.in_ok-more-in-Err.ensures ∙ ap (λ k. take k (rule_entries g.S.Suite.crypto)) c.lines_before.ensures)
+    lines_or_wanting g.S.Suite.crypto _ _ _ _ _ _ _ _ c.refuse_behind.ensures.memory c.refuse_behind.ensures.page c.in-Err.ensures.answer c.in_ok-lines.ensures.same c.in_ok-append_lines-in-Err.ensures c.in_ok-lines.ensures.lines (c.in_ok-more-in-Err.ensures ∙ ap (λ k. take k (rule_entries g.S.Suite.crypto)) c.lines_before.ensures)

@@ -2,7 +2,7 @@ use Rattle.std.proofs.Common.{◌≡◌, Bool, true, false, arith, sym}
 use Rattle.std.specs.Str.{bytes_eq}
 use Rattle.mls_cli_explain.specs.Explain.{name_told}
 use Rattle.mls_cli_explain.proofs.Naming.{further, here, nowhere}
-use Rattle.mls_cli_explain.proofs.explain.named.Goals as goal
+use Rattle.mls_cli_explain.proofs.explain.number_of_name.Goals as goal
 
 pub returns-then-eq : goal.returns-then-eq
 returns-then-eq c =

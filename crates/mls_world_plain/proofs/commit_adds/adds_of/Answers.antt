@@ -1,6 +1,6 @@
 use Rattle.std.proofs.Common.{ℕ, List, sym, subst, ◌+◌, ◌∙◌}
 use Rattle.mls_world_plain.proofs.Listing.{AddsFrom, adds_start, adds_next, adds_none, adds_end, rest_short}
-use Rattle.mls_world_plain.proofs.commit_adds.added_by.Goals as goal
+use Rattle.mls_world_plain.proofs.commit_adds.adds_of.Goals as goal
 
 pub loop-item-init : goal.loop-item-init
 loop-item-init g c = (subst (λ (l : List (List ℕ)). AddsFrom c.args.member.now.kept c.args.items.now 0 l) (sym c.new-adds.ensures.items) (adds_start c.args.member.now.kept c.args.items.now), c.requires)
