@@ -3,3 +3,4 @@ pub mod Welcomes
 pub mod Places
 pub mod Joining
 mod FewNodes
+mod SentTree

@@ -1,3 +1,4 @@
 mod Copies
 pub mod Loading
 mod Lengths
+mod SavedTrees
