@@ -32,7 +32,8 @@ fn list_entries(alloc: Global, kind: KeyKind, cells: &Cells) -> Result<Vec<Entry
     for x in 0..cells.len() {
         let number = x as u32;
         if let Some(key) = kind.key_in(cells, number) {
-            entries.push_reserved(Entry::new(key, number));
+            let entry = Entry::new(key, number);
+            entries.push_reserved(entry);
         }
     }
     Ok(entries)

@@ -1,8 +1,10 @@
 //! The order of entries: by key, and then by number.
 
 ghost use Rattle.std.specs.Prelude.{◌≡◌, nat_eq};
-ghost use Rattle.std.specs.Ordering.{nat_cmp};
+ghost use Rattle.std.specs.Ordering.{nat_cmp, is_lt};
 ghost use Rattle.std.specs.Cmp.Lexicographic.{pointwise, slice_cmp};
+ghost use Rattle.mls_tree_index.specs.Keys.{key_in};
+ghost use Rattle.mls_tree_index.specs.Order.{entry_at, entry_cmp};
 ghost use Rattle.mls_tree_index.specs.Searches.{is_lower};
 
 use crate::entry::Entry;
@@ -30,8 +32,19 @@ pub(crate) fn is_same(own: &[u8], key: &[u8]) -> bool
     compare(own, key).is_eq()
 }
 
+/// Whether an entry comes before that of a key by key, and then by number.
+fn is_key_before(kind: KeyKind, cells: &Cells, own: Entry, key: &[u8], entry: Entry) -> bool
+    ensures { result ≡ is_lt (entry_cmp (entry_at (key_in kind cells.now.nodes) own.number)
+        (key.now, entry.number)) }
+{
+    match compare(own.key(kind, cells), key) {
+        Ordering::Equal => own.number < entry.number,
+        order => order.is_lt(),
+    }
+}
+
 /// Whether an entry comes before that of a key. Its key is read only where the fronts are the same.
-#[tactic(auto, using(crate::proofs::KeyFronts::then_other, crate::proofs::KeyFronts::then_same))]
+#[tactic(auto, using(crate::proofs::KeyFronts::lower_other, crate::proofs::KeyFronts::lower_same))]
 pub(crate) fn is_before(
     kind: KeyKind,
     cells: &Cells,
@@ -44,8 +57,5 @@ pub(crate) fn is_before(
     if own.front != entry.front {
         return own.front < entry.front;
     }
-    match compare(own.key(kind, cells), key) {
-        Ordering::Equal => own.number < entry.number,
-        order => order.is_lt(),
-    }
+    is_key_before(kind, cells, own, key, entry)
 }

@@ -6,7 +6,7 @@ use Rattle.mls_tree_index.proofs.blocks.Blocks.new.Given as goal
 abbrev pub invariant-loop-rest : goal.invariant-loop-rest
 invariant-loop-rest l = record {
   blocks : AreBlocks (blocks_of l.list.items);
-  numbers : concat (blocks_of l.list.items) ++ l.rest ≡ l.numbers;
+  entries : concat (blocks_of l.list.items) ++ l.rest ≡ l.entries;
   own : are_shared l.list.items ≡ false;
 }
 
