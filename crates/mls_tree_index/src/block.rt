@@ -1,8 +1,9 @@
 //! A block of entries that copies may share.
 
-ghost use Rattle.std.specs.Prelude.{◌≡◌, ◌<◌, ◌≤◌, true, false, length, take, drop, vec_len, IfOk};
+ghost use Rattle.std.specs.Prelude.{◌≡◌, ◌<◌, ◌≤◌, true, false, length, take, drop, get_or, vec_len, IfOk};
 ghost use Rattle.std.specs.List.{insert, remove};
-ghost use Rattle.mls_tree_index.specs.Block.{IsBlock, IsHeld, IsSpare, block_size, half_size, entries_in};
+ghost use Rattle.mls_tree_index.specs.Block.{IsBlock, IsHeld, IsSpare, block_size, entries_in, half_size};
+ghost use Rattle.mls_tree_index.specs.Entries.{blank_entry};
 
 use crate::entry::Entry;
 use std::alloc::{AllocError, Global};
@@ -30,7 +31,7 @@ pub(crate) struct Block {
 }
 
 impl Model for Block {
-    ghost use Rattle.mls_tree_index.specs.Block.{BlockEntries, IsHeld, is_shared, entries_in};
+    ghost use Rattle.mls_tree_index.specs.Block.{BlockEntries, IsHeld, entries_in, is_shared};
 
     ghost Value = { BlockEntries };
 
@@ -48,6 +49,14 @@ pub(crate) fn make_block(alloc: Global, entries: &[Entry]) -> Result<Vec<Entry>,
     let mut block = Vec::with_capacity(alloc, BLOCK_SIZE)?;
     block.extend_from_slice(entries)?;
     Ok(block)
+}
+
+/// The entry of a block at an offset.
+pub(crate) fn entry_in(block: &[Entry], offset: usize) -> Entry
+    requires { offset < length block.now }
+    ensures { result ≡ get_or block.now offset blank_entry }
+{
+    block[offset]
 }
 
 /// Puts an entry into a block that isn't full.

@@ -6,7 +6,7 @@ ghost use Rattle.std.specs.Vec.{vec_capacity};
 ghost use Rattle.mls_tree_index.specs.Block.{IsSpare, block_size};
 ghost use Rattle.mls_tree_index.specs.Blocks.{AreBlocks, AreKept, IsEntryAt, IsOpenAt, IsOwnAt, IsSpot, PushesBlock, PutsEntry, TakesEntry, are_shared, blocks_of, least_free, place_in, place_of, room_of, split_at};
 
-use crate::block::{BLOCK_SIZE, Block, HALF_SIZE, make_block};
+use crate::block::{BLOCK_SIZE, Block, HALF_SIZE, entry_in, make_block};
 use crate::entry::Entry;
 use std::alloc::{AllocError, Global};
 use std::marker::Model;
@@ -302,11 +302,13 @@ impl Blocks {
     {
         let block = self.block(spot.block);
         if spot.offset < block.len() {
-            return Some(block[spot.offset]);
+            let own = entry_in(block, spot.offset);
+            return Some(own);
         }
         let last = self.count() - 1;
         if spot.block < last {
-            return Some(self.block(spot.block + 1)[0]);
+            let next = entry_in(self.block(spot.block + 1), 0);
+            return Some(next);
         }
         None
     }

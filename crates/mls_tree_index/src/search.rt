@@ -6,6 +6,7 @@ ghost use Rattle.mls_tree_index.specs.Blocks.{AreBlocks, IsInner, IsSpot, first_
 ghost use Rattle.mls_tree_index.specs.Entries.{front_of};
 ghost use Rattle.mls_tree_index.specs.Searches.{AnswersAround, AnswersAt, BeginsLow, EndsHigh, IsHighAt, IsLowBefore, IsPlaceOf, is_lower};
 
+use crate::block::entry_in;
 use crate::blocks::{Blocks, Spot};
 use crate::entry::Entry;
 use crate::kind::KeyKind;
@@ -37,7 +38,7 @@ fn count_before(
     let mut end = entries.len();
     while start < end {
         let middle = start + (end - start) / 2;
-        if is_before(kind, cells, entries[middle], key, entry) {
+        if is_before(kind, cells, entry_in(entries, middle), key, entry) {
             start = middle + 1;
         } else {
             end = middle;
@@ -53,7 +54,8 @@ impl Blocks {
         requires block { b < length self.now.blocks }
         ensures { result ≡ is_lower kind cells.now.nodes key.now entry (first_of self.now.blocks b) }
     {
-        is_before(kind, cells, self.block(b)[0], key, entry)
+        let first = entry_in(self.block(b), 0);
+        is_before(kind, cells, first, key, entry)
     }
 
     /// The first and the last of some blocks, among which is the last one that begins before the entry of this key, or

@@ -10,7 +10,7 @@ returns-then-spot-block c =
     let same = ap length entries in
     let less = c.if-spot-block.true in
     let within = block_within bs c.args.spot.block c.requires.block in
-    (omega arith, entry_in bs c.args.spot.block c.args.spot.offset c.requires.block (omega arith) ∙ ap (λ ns. get_or ns c.args.spot.offset blank_entry) (sym entries))
+    (omega arith, entry_in bs c.args.spot.block c.args.spot.offset c.requires.block (omega arith) ∙ ap (λ ns. get_or ns c.args.spot.offset blank_entry) (sym entries) ∙ sym c.entry_in-own.ensures)
 
 pub returns-then-spot-last : goal.returns-then-spot-last
 returns-then-spot-last c =
@@ -26,7 +26,7 @@ returns-then-spot-last c =
     let full = c.block.ensures.full (omega arith) in
     let wide = ap length entries in
     let found = next_entry bs b c.args.spot.offset c.requires.block (omega arith) (omega arith) (omega arith) in
-    (found.0, found.1 ∙ ap (λ ns. get_or ns 0 blank_entry) (sym entries))
+    (found.0, found.1 ∙ ap (λ ns. get_or ns 0 blank_entry) (sym entries) ∙ sym c.entry_in-next.ensures)
 
 pub returns : goal.returns
 returns c =
