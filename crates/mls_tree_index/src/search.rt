@@ -49,7 +49,14 @@ fn count_before(
 
 impl Blocks {
     /// Whether a block that has an entry begins before the entry of this key.
-    fn begins_before(&self, kind: KeyKind, cells: &Cells, b: usize, key: &[u8], entry: Entry) -> bool
+    fn begins_before(
+        &self,
+        kind: KeyKind,
+        cells: &Cells,
+        b: usize,
+        key: &[u8],
+        entry: Entry,
+    ) -> bool
         requires some { 0 < b }
         requires block { b < length self.now.blocks }
         ensures { result ≡ is_lower kind cells.now.nodes key.now entry (first_of self.now.blocks b) }
