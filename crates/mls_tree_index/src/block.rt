@@ -232,7 +232,10 @@ impl Block {
         requires own { self.old.shared ≡ false }
         requires room { length self.old.entries < block_size }
         requires offset { offset ≤ length self.old.entries }
-        ensures { self.new ≡ record { entries = insert self.old.entries offset entry; shared = false } }
+        ensures { self.new ≡ record {
+          entries = insert self.old.entries offset entry;
+          shared = false;
+        } }
     {
         match &mut self.holder {
             Holder::Own(entries) => put_in(entries, offset, entry),

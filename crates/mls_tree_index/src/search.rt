@@ -59,7 +59,8 @@ impl Blocks {
     ) -> bool
         requires some { 0 < b }
         requires block { b < length self.now.blocks }
-        ensures { result ≡ is_lower kind cells.now.nodes key.now entry (first_of self.now.blocks b) }
+        ensures { result ≡
+            is_lower kind cells.now.nodes key.now entry (first_of self.now.blocks b) }
     {
         let first = entry_in(self.block(b), 0);
         is_before(kind, cells, first, key, entry)
