@@ -11,7 +11,7 @@ use Rattle.mls_tree_index.specs.Searches.{AnswersAround, IsPlaceOf}
 use Rattle.mls_tree_index.proofs.StepLaws.{around_for, entered, few, indexes_from, none_held, one_held, part_before, place_for}
 
 -- the entry of a cell with a key was put at its place, and it is told whether another cell has the key
-module _ (x : ℕ) (cells : List (Option Node)) (s : Listing) (kind : KeyKind) (es : List Entry) (k : List ℕ) (p : ℕ) (again : Bool) (e : Entry) (kinds : kind ≡ s.kind) (entries : es ≡ s.entries) (key : key_in s.kind cells x ≡ Some k) (its : e ≡ record { front = front_of k; number = x }) (bytes : BeginsWithBytes k) (place : IsPlaceOf kind es cells k x p) (around : AnswersAround kind es cells p k again) where
+module _ (x : ℕ) (cells : List (Option Node)) (s : Listing) (kind : KeyKind) (es : List Entry) (k : List ℕ) (p : ℕ) (again : Bool) (e : Entry) (kinds : kind ≡ s.kind) (entries : es ≡ s.entries) (key : key_in s.kind cells x ≡ Some k) (number : e.number ≡ x) (front : e.front ≡ front_of k) (bytes : BeginsWithBytes k) (place : IsPlaceOf kind es cells k x p) (around : AnswersAround kind es cells p k again) where
   module _ (b c : List (Option Node)) (without : Without s.kind x cells b c) (is : Indexes b s) where
     held : again ≡ is_held s.kind b k
     held =
@@ -23,7 +23,7 @@ module _ (x : ℕ) (cells : List (Option Node)) (s : Listing) (kind : KeyKind) (
     more =
         let part = part_before x cells b c s without in
         let gap = place_for s kind es cells k x p kinds entries place (key_in s.kind b) part is.entries in
-        entered x cells b c s without k key e (ap (λ (d : Entry). d.number) its) (ap (λ (d : Entry). d.front) its) bytes p is.entries gap
+        entered x cells b c s without k key e number front bytes p is.entries gap
 
   -- no other cell has it
   pub enters_new : (t : Listing) → t.kind ≡ kind → t.entries ≡ insert es p e → t.repeats ≡ s.repeats → again ≡ false → EntersCell x cells s t

@@ -41,7 +41,8 @@ fn read_front(key: &[u8]) -> u32
 impl Entry {
     /// The entry of a cell with this key.
     pub(crate) fn new(key: &[u8], number: u32) -> Entry
-        ensures entry { result ≡ record { front = front_of key.now; number = number } }
+        ensures front { result.front ≡ front_of key.now }
+        ensures number { result.number ≡ number }
         ensures bytes { BeginsWithBytes key.now }
     {
         Entry {

@@ -1,7 +1,6 @@
 use Rattle.std.proofs.Common.{refl, ◌&&◌, nat_eq, sym, ◌∙◌, ap, subst, arith}
 use Rattle.std.proofs.lemmas.Bool.{and_parts}
 use Rattle.std.specs.List.{concat}
-use Rattle.mls_tree_index.specs.declared.entry.Entry.{Entry}
 use Rattle.mls_tree_index.specs.Blocks.{place_of}
 use Rattle.mls_tree_index.specs.Entries.{AreOrdered, front_of, numbers_of}
 use Rattle.mls_tree_index.specs.Indexes.{Listing}
@@ -23,7 +22,7 @@ returns-in_default c = λ is.
     let entries = ap (λ (t : Listing). t.entries) c.self.view_is in
     let k = c.args.key.now in
     let are = subst (λ j. AreOrdered (key_in j cells) es) (sym kinds) (subst (AreOrdered (key_in s.kind cells)) (sym entries) is.entries) in
-    let place = subst (λ n. IsPlaceOf kind es cells k n p) (ap (λ (e : Entry). e.number) c.new-entry.ensures.entry) c.spot_of-spot.ensures.gap in
+    let place = subst (λ n. IsPlaceOf kind es cells k n p) c.new-entry.ensures.number c.spot_of-spot.ensures.gap in
     let first = held_first kind cells cells (λ x some. refl) (numbers_of es) are.numbers k p (place (key_in kind cells) (λ x some. refl) are) in
     ap (λ j. is_held j cells k) (sym kinds) ∙ sym first ∙ sym (none_at kind cells (key_in kind cells) (λ x some. refl) es are k p c.in_default.ensures)
 
@@ -47,9 +46,8 @@ returns-else-is_of c = λ is.
     let k = c.args.key.now in
     let own = c.in-Some.own in
     let are = subst (λ j. AreOrdered (key_in j cells) es) (sym kinds) (subst (AreOrdered (key_in s.kind cells)) (sym entries) is.entries) in
-    let place = subst (λ n. IsPlaceOf kind es cells k n p) (ap (λ (e : Entry). e.number) c.new-entry.ensures.entry) c.spot_of-spot.ensures.gap in
+    let place = subst (λ n. IsPlaceOf kind es cells k n p) c.new-entry.ensures.number c.spot_of-spot.ensures.gap in
     let first = held_first kind cells cells (λ x some. refl) (numbers_of es) are.numbers k p (place (key_in kind cells) (λ x some. refl) are) in
     let found = found_at kind cells (key_in kind cells) (λ x some. refl) es are k p own c.in-Some.ensures.0 c.in-Some.ensures.1 in
-    let front = ap (λ (e : Entry). e.front) c.new-entry.ensures.entry in
-    let other = ap (λ n. nat_eq own.front n && is_key k (key_in kind cells own.number)) (sym front) ∙ sym c.is_of.ensures ∙ c.if-is_of.false in
+    let other = ap (λ n. nat_eq own.front n && is_key k (key_in kind cells own.number)) (sym c.new-entry.ensures.front) ∙ sym c.is_of.ensures ∙ c.if-is_of.false in
     ap (λ j. is_held j cells k) (sym kinds) ∙ sym first ∙ sym found ∙ other

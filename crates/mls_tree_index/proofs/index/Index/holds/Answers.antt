@@ -1,7 +1,6 @@
 use Rattle.std.proofs.Common.{◌∙◌, ap, subst}
 use Rattle.std.specs.List.{concat}
 use Rattle.mls_tree_index.specs.Blocks.{place_of}
-use Rattle.mls_tree_index.specs.declared.entry.Entry.{Entry}
 use Rattle.mls_tree_index.specs.Entries.{numbers_of}
 use Rattle.mls_tree_index.specs.Indexes.{Listing}
 use Rattle.mls_tree_index.specs.Keys.{key_in}
@@ -19,8 +18,7 @@ returns c = λ d part are.
     let kinds = ap (λ (t : Listing). t.kind) c.self.view_is in
     let entries = ap (λ (t : Listing). t.entries) c.self.view_is in
     let k = c.args.key.now in
-    let x = ap (λ (e : Entry). e.number) c.new-entry.ensures.entry in
-    let place = subst (λ n. IsPlaceOf kind es cells k n p) x c.spot_of-spot.ensures.gap in
+    let place = subst (λ n. IsPlaceOf kind es cells k n p) c.new-entry.ensures.number c.spot_of-spot.ensures.gap in
     let gap = place_for s kind es cells k 0 p kinds entries place (key_in s.kind d) part are in
     at_for s kind es cells k p c.is_key_at.result kinds entries c.is_key_at.ensures (key_in s.kind d) part are
     ∙ held_first s.kind d cells part (numbers_of s.entries) are.numbers k p gap

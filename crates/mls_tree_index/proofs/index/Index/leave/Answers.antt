@@ -1,6 +1,5 @@
 use Rattle.std.proofs.Common.{◌≡◌, length, sym, ◌∙◌, ap, subst, arith}
 use Rattle.std.specs.List.{concat, remove}
-use Rattle.mls_tree_index.specs.declared.entry.Entry.{Entry}
 use Rattle.mls_tree_index.specs.Blocks.{place_of}
 use Rattle.mls_tree_index.specs.Indexes.{Listing}
 use Rattle.mls_tree_index.specs.Keys.{key_in, keys_of, is_held, repeats_in}
@@ -29,7 +28,7 @@ returns-then-self-eq0-clause-left c = λ b d without is.
     let k = c.in-Some.key.now in
     let key = ap (λ j. key_in j cells x) (sym kinds) ∙ sym c.in-Some.ensures in
     let part = part_before x cells b d s without in
-    let place = subst (λ n. IsPlaceOf kind es cells k n p) (ap (λ (e : Entry). e.number) c.new-entry.ensures.entry) c.spot_of-spot.ensures.gap in
+    let place = subst (λ n. IsPlaceOf kind es cells k n p) c.new-entry.ensures.number c.spot_of-spot.ensures.gap in
     let gap = place_for s kind es cells k x p kinds entries place (key_in s.kind d) without.part is.entries in
     let inside = placed x cells b d s without k key p is.entries gap in
     let rest = left x cells b d s without k key p is.entries gap in
@@ -54,7 +53,7 @@ returns-then-holds-clause-left c = λ b d without is.
     let k = c.in-Some.key.now in
     let key = ap (λ j. key_in j cells x) (sym kinds) ∙ sym c.in-Some.ensures in
     let part = part_before x cells b d s without in
-    let place = subst (λ n. IsPlaceOf kind es cells k n p) (ap (λ (e : Entry). e.number) c.new-entry.ensures.entry) c.spot_of-spot.ensures.gap in
+    let place = subst (λ n. IsPlaceOf kind es cells k n p) c.new-entry.ensures.number c.spot_of-spot.ensures.gap in
     let gap = place_for s kind es cells k x p kinds entries place (key_in s.kind d) without.part is.entries in
     let inside = placed x cells b d s without k key p is.entries gap in
     let rest = left x cells b d s without k key p is.entries gap in
@@ -79,7 +78,7 @@ returns-else-holds-clause-left c = λ b d without is.
     let k = c.in-Some.key.now in
     let key = ap (λ j. key_in j cells x) (sym kinds) ∙ sym c.in-Some.ensures in
     let part = part_before x cells b d s without in
-    let place = subst (λ n. IsPlaceOf kind es cells k n p) (ap (λ (e : Entry). e.number) c.new-entry.ensures.entry) c.spot_of-spot.ensures.gap in
+    let place = subst (λ n. IsPlaceOf kind es cells k n p) c.new-entry.ensures.number c.spot_of-spot.ensures.gap in
     let gap = place_for s kind es cells k x p kinds entries place (key_in s.kind d) without.part is.entries in
     let inside = placed x cells b d s without k key p is.entries gap in
     let rest = left x cells b d s without k key p is.entries gap in
