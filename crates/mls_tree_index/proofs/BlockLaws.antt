@@ -1,23 +1,27 @@
 -- Laws of lists in blocks: an edit of one block is one of the whole list.
 use Rattle.std.proofs.Common.{◌≡◌, ℕ, zero, suc, ◌+◌, ◌-◌, ◌<◌, ◌≤◌, true, false, List, [], ◌∷◌, ◌++◌, map, length, take, drop, get_or, set, refl, sym, ◌∙◌, ap, subst, arith, append_assoc, append-nil, add-one, inl, inr}
-use Rattle.std.specs.List.{All, concat, insert, remove}
+use Rattle.std.specs.List.{All, insert, remove}
 use Rattle.std.proofs.lemmas.Bool.{cases_Bool, true≢false}
 use Rattle.std.proofs.lemmas.List.{length-append, get_or_append_left, get_or-append-add, map-append, map-set}
 use Rattle.std.proofs.lemmas.Grind.{get_or-set_at}
 use Rattle.std.proofs.lemmas.List.{length-drop, length-set, length-take-le, nil_from_length, take-append-drop}
-use Rattle.std.proofs.lemmas.List.Folds.{concat-append, list_any_at, list_any_none}
+use Rattle.std.proofs.lemmas.List.Folds.{list_any_at, list_any_none}
 use Rattle.std.proofs.lemmas.List.Edits.{insert-append_left, insert-append_right, length-insert, remove-append_left, remove-append_right}
 use Rattle.std.proofs.lemmas.List.Elements.{All-set, All-get_or}
 use Rattle.mls_tree_index.specs.declared.blocks.Spot.{Spot}
 use Rattle.mls_tree_index.specs.declared.entry.Entry.{Entry}
 use Rattle.mls_tree_index.specs.Entries.{blank_entry}
 use Rattle.mls_tree_index.specs.Block.{BlockEntries}
-use Rattle.mls_tree_index.specs.Blocks.{AreBlocks, IsOpenAt, IsOwnAt, PushesBlock, are_shared, blocks_of, place_in, place_of, split_at}
+use Rattle.mls_tree_index.specs.Blocks.{AreBlocks, IsOpenAt, IsOwnAt, PushesBlock, are_shared, blocks_of, joined, place_in, place_of, split_at}
+
+joined-append : (cs bs : List (List Entry)) → joined (cs ++ bs) ≡ joined cs ++ joined bs
+joined-append [] bs = refl
+joined-append (x ∷ cs) bs = ap (λ es. x ++ es) (joined-append cs bs) ∙ sym (append_assoc x (joined cs) (joined bs))
 
 -- ---- where a block stands
 
 place_behind : (x : List Entry) (bs : List (List Entry)) (b o : ℕ) → place_in (x ∷ bs) (suc b) o ≡ length x + place_in bs b o
-place_behind x bs b o = let more = length-append x (concat (take b bs)) in omega arith
+place_behind x bs b o = let more = length-append x (joined (take b bs)) in omega arith
 
 pub place_next : (bs : List (List Entry)) (b o : ℕ) → b < length bs → place_in bs (suc b) o ≡ place_in bs b (length (get_or bs b [])) + o
 place_next [] b o lt = absurd (omega arith)
@@ -28,81 +32,81 @@ place_next (x ∷ bs) (suc b) o lt =
     let two = place_behind x bs (suc b) o in
     omega arith
 
-pub block_within : (bs : List (List Entry)) (b : ℕ) → b < length bs → place_in bs b (length (get_or bs b [])) ≤ length (concat bs)
+pub block_within : (bs : List (List Entry)) (b : ℕ) → b < length bs → place_in bs b (length (get_or bs b [])) ≤ length (joined bs)
 block_within [] b lt = absurd (omega arith)
-block_within (x ∷ bs) zero lt = let more = length-append x (concat bs) in omega arith
+block_within (x ∷ bs) zero lt = let more = length-append x (joined bs) in omega arith
 block_within (x ∷ bs) (suc b) lt =
     let rest = block_within bs b (omega arith) in
     let one = place_behind x bs b (length (get_or bs b [])) in
-    let more = length-append x (concat bs) in
+    let more = length-append x (joined bs) in
     omega arith
 
 -- the last block ends where the list does
-pub block_last : (bs : List (List Entry)) (b : ℕ) → suc b ≡ length bs → place_in bs b (length (get_or bs b [])) ≡ length (concat bs)
+pub block_last : (bs : List (List Entry)) (b : ℕ) → suc b ≡ length bs → place_in bs b (length (get_or bs b [])) ≡ length (joined bs)
 block_last [] b last = absurd (omega arith)
 block_last (x ∷ []) zero last = let more = length-append x [] in omega arith
 block_last (x ∷ y ∷ bs) zero last = absurd (omega arith)
 block_last (x ∷ bs) (suc b) last =
     let rest = block_last bs b (omega arith) in
     let one = place_behind x bs b (length (get_or bs b [])) in
-    let more = length-append x (concat bs) in
+    let more = length-append x (joined bs) in
     omega arith
 
 -- an entry of a block is one of the list
-pub entry_in : (bs : List (List Entry)) (b o : ℕ) → b < length bs → o < length (get_or bs b []) → get_or (concat bs) (place_in bs b o) blank_entry ≡ get_or (get_or bs b []) o blank_entry
+pub entry_in : (bs : List (List Entry)) (b o : ℕ) → b < length bs → o < length (get_or bs b []) → get_or (joined bs) (place_in bs b o) blank_entry ≡ get_or (get_or bs b []) o blank_entry
 entry_in [] b o lt low = absurd (omega arith)
 entry_in (x ∷ bs) zero o lt low =
     let at : place_in (x ∷ bs) 0 o ≡ o = omega arith in
-    ap (λ n. get_or (x ++ concat bs) n blank_entry) at ∙ get_or_append_left x (concat bs) blank_entry o low
+    ap (λ n. get_or (x ++ joined bs) n blank_entry) at ∙ get_or_append_left x (joined bs) blank_entry o low
 entry_in (x ∷ bs) (suc b) o lt low =
-    ap (λ n. get_or (x ++ concat bs) n blank_entry) (place_behind x bs b o)
-    ∙ get_or-append-add x (concat bs) (place_in bs b o) blank_entry
+    ap (λ n. get_or (x ++ joined bs) n blank_entry) (place_behind x bs b o)
+    ∙ get_or-append-add x (joined bs) (place_in bs b o) blank_entry
     ∙ entry_in bs b o (omega arith) low
 
 -- where a block ends, the next one begins
-pub next_entry : (bs : List (List Entry)) (b o : ℕ) → b < length bs → length (get_or bs b []) ≡ o → suc b < length bs → 0 < length (get_or bs (suc b) []) → (place_in bs b o < length (concat bs)) × (get_or (concat bs) (place_in bs b o) blank_entry ≡ get_or (get_or bs (suc b) []) 0 blank_entry)
+pub next_entry : (bs : List (List Entry)) (b o : ℕ) → b < length bs → length (get_or bs b []) ≡ o → suc b < length bs → 0 < length (get_or bs (suc b) []) → (place_in bs b o < length (joined bs)) × (get_or (joined bs) (place_in bs b o) blank_entry ≡ get_or (get_or bs (suc b) []) 0 blank_entry)
 next_entry bs b o lt all more full =
     let next = place_next bs b 0 lt in
     let at : place_in bs b o ≡ place_in bs (suc b) 0 = omega arith in
     let within = block_within bs (suc b) more in
-    (omega arith, ap (λ n. get_or (concat bs) n blank_entry) at ∙ entry_in bs (suc b) 0 more full)
+    (omega arith, ap (λ n. get_or (joined bs) n blank_entry) at ∙ entry_in bs (suc b) 0 more full)
 
 pub place_end : (bs : List (List Entry)) (b o : ℕ) → b < length bs → length (get_or bs b []) ≡ o → place_in bs (b + 1) 0 ≡ place_in bs b o
 place_end bs b o lt all =
     let next = place_next bs b 0 lt in
     ap (λ n. place_in bs n 0) (add-one b) ∙ omega arith
 
-pub no_entry : (bs : List (List Entry)) (b o : ℕ) → b < length bs → length (get_or bs b []) ≤ o → length bs ≤ suc b → length (concat bs) ≤ place_in bs b o
+pub no_entry : (bs : List (List Entry)) (b o : ℕ) → b < length bs → length (get_or bs b []) ≤ o → length bs ≤ suc b → length (joined bs) ≤ place_in bs b o
 no_entry bs b o lt all last = let ends = block_last bs b (omega arith) in omega arith
 
 -- ---- edits of a block
 
-pub insert_in : (bs : List (List Entry)) (b o : ℕ) (y : Entry) → b < length bs → o ≤ length (get_or bs b []) → concat (set bs b (insert (get_or bs b []) o y)) ≡ insert (concat bs) (place_in bs b o) y
+pub insert_in : (bs : List (List Entry)) (b o : ℕ) (y : Entry) → b < length bs → o ≤ length (get_or bs b []) → joined (set bs b (insert (get_or bs b []) o y)) ≡ insert (joined bs) (place_in bs b o) y
 insert_in [] b o y lt low = absurd (omega arith)
 insert_in (x ∷ bs) zero o y lt low =
     let at : o ≡ place_in (x ∷ bs) 0 o = omega arith in
-    sym (insert-append_left x (concat bs) o y low) ∙ ap (λ n. insert (x ++ concat bs) n y) at
+    sym (insert-append_left x (joined bs) o y low) ∙ ap (λ n. insert (x ++ joined bs) n y) at
 insert_in (x ∷ bs) (suc b) o y lt low =
     let behind = place_behind x bs b o in
     let at : place_in bs b o ≡ place_in (x ∷ bs) (suc b) o - length x = omega arith in
-    ap (λ zs. x ++ zs) (insert_in bs b o y (omega arith) low ∙ ap (λ n. insert (concat bs) n y) at)
-    ∙ sym (insert-append_right x (concat bs) (length x) (place_in (x ∷ bs) (suc b) o) y refl (omega arith))
+    ap (λ zs. x ++ zs) (insert_in bs b o y (omega arith) low ∙ ap (λ n. insert (joined bs) n y) at)
+    ∙ sym (insert-append_right x (joined bs) (length x) (place_in (x ∷ bs) (suc b) o) y refl (omega arith))
 
-pub remove_in : (bs : List (List Entry)) (b o : ℕ) → b < length bs → o < length (get_or bs b []) → concat (set bs b (remove (get_or bs b []) o)) ≡ remove (concat bs) (place_in bs b o)
+pub remove_in : (bs : List (List Entry)) (b o : ℕ) → b < length bs → o < length (get_or bs b []) → joined (set bs b (remove (get_or bs b []) o)) ≡ remove (joined bs) (place_in bs b o)
 remove_in [] b o lt low = absurd (omega arith)
 remove_in (x ∷ bs) zero o lt low =
     let at : o ≡ place_in (x ∷ bs) 0 o = omega arith in
-    sym (remove-append_left x (concat bs) o low) ∙ ap (λ n. remove (x ++ concat bs) n) at
+    sym (remove-append_left x (joined bs) o low) ∙ ap (λ n. remove (x ++ joined bs) n) at
 remove_in (x ∷ bs) (suc b) o lt low =
     let behind = place_behind x bs b o in
     let at : place_in bs b o ≡ place_in (x ∷ bs) (suc b) o - length x = omega arith in
-    ap (λ zs. x ++ zs) (remove_in bs b o (omega arith) low ∙ ap (λ n. remove (concat bs) n) at)
-    ∙ sym (remove-append_right x (concat bs) (length x) (place_in (x ∷ bs) (suc b) o) refl (omega arith))
+    ap (λ zs. x ++ zs) (remove_in bs b o (omega arith) low ∙ ap (λ n. remove (joined bs) n) at)
+    ∙ sym (remove-append_right x (joined bs) (length x) (place_in (x ∷ bs) (suc b) o) refl (omega arith))
 
 -- a block that has no entry goes
-pub without_empty : (bs : List (List Entry)) (b : ℕ) → b < length bs → get_or bs b [] ≡ [] → concat (remove bs b) ≡ concat bs
+pub without_empty : (bs : List (List Entry)) (b : ℕ) → b < length bs → get_or bs b [] ≡ [] → joined (remove bs b) ≡ joined bs
 without_empty [] b lt none = absurd (omega arith)
-without_empty (x ∷ bs) zero lt none = ap (λ v. v ++ concat bs) (sym none)
+without_empty (x ∷ bs) zero lt none = ap (λ v. v ++ joined bs) (sym none)
 without_empty (x ∷ bs) (suc b) lt none = ap (λ zs. x ++ zs) (without_empty bs b (omega arith) none)
 
 -- ---- what holds of each element, in an edited list
@@ -289,8 +293,8 @@ pushed_block vs ws v ns is own =
     ∙ map-append (λ (w : BlockEntries). w.entries) vs (v ∷ [])
     ∙ ap (λ ms. blocks_of vs ++ ms ∷ []) own
 
-pub pushed_entries : (bs cs : List (List Entry)) (ns : List Entry) → cs ≡ bs ++ ns ∷ [] → concat cs ≡ concat bs ++ ns
-pushed_entries bs cs ns is = ap concat is ∙ concat-append bs (ns ∷ []) ∙ ap (λ ms. concat bs ++ ms) (append-nil ns)
+pub pushed_entries : (bs cs : List (List Entry)) (ns : List Entry) → cs ≡ bs ++ ns ∷ [] → joined cs ≡ joined bs ++ ns
+pushed_entries bs cs ns is = ap joined is ∙ joined-append bs (ns ∷ []) ∙ ap (λ ms. joined bs ++ ms) (append-nil ns)
 
 pub pushed_blocks : (bs cs : List (List Entry)) (ns : List Entry) → cs ≡ bs ++ ns ∷ [] → 0 < length ns → AreBlocks bs → AreBlocks cs
 pushed_blocks bs cs ns is some are = subst AreBlocks (sym is) (pushed bs are)
@@ -306,12 +310,12 @@ first_block cs ns is = subst AreBlocks (sym is) (λ k d lt. absurd (omega arith)
 -- ---- a block that is left with no entry
 
 module _ (vs : List BlockEntries) (b : ℕ) (v : BlockEntries) where
-  pub empty_goes : b < length vs → length v.entries ≡ 0 → concat (blocks_of (remove (set vs b v) b)) ≡ concat (blocks_of (set vs b v))
+  pub empty_goes : b < length vs → length v.entries ≡ 0 → joined (blocks_of (remove (set vs b v) b)) ≡ joined (blocks_of (set vs b v))
   empty_goes lt none =
       let same = length-set vs b v in
       let count = count_of (set vs b v) in
       let here = block_at (set vs b v) b v (omega arith) ∙ ap (λ (w : BlockEntries). w.entries) (get_or-set_at vs b b v v refl lt) ∙ nil_from_length v.entries none in
-      ap concat (map_remove (λ (w : BlockEntries). w.entries) (set vs b v) b)
+      ap joined (map_remove (λ (w : BlockEntries). w.entries) (set vs b v) b)
       ∙ without_empty (blocks_of (set vs b v)) b (omega arith) here
 
   pub blocks_left : 1 < length vs → AreBlocks (blocks_of vs) → AreBlocks (blocks_of (remove (set vs b v) b))
@@ -323,10 +327,10 @@ module _ (vs : List BlockEntries) (b : ℕ) (v : BlockEntries) where
 -- ---- a block that is split in two
 
 module _ (lower upper : List Entry) where
-  parts_in : (bs : List (List Entry)) (b : ℕ) → b < length bs → get_or bs b [] ≡ lower ++ upper → concat (insert (set bs b lower) (suc b) upper) ≡ concat bs
+  parts_in : (bs : List (List Entry)) (b : ℕ) → b < length bs → get_or bs b [] ≡ lower ++ upper → joined (insert (set bs b lower) (suc b) upper) ≡ joined bs
   parts_in [] b lt parts = absurd (omega arith)
   parts_in (x ∷ bs) zero lt parts =
-      sym (append_assoc lower upper (concat bs)) ∙ ap (λ v. v ++ concat bs) (sym parts)
+      sym (append_assoc lower upper (joined bs)) ∙ ap (λ v. v ++ joined bs) (sym parts)
   parts_in (x ∷ bs) (suc b) lt parts = ap (λ zs. x ++ zs) (parts_in bs b (omega arith) parts)
 
   lower_part : (bs : List (List Entry)) (b : ℕ) → b < length bs → get_or (insert (set bs b lower) (suc b) upper) b [] ≡ lower
@@ -360,7 +364,7 @@ module _ (bs : List (List Entry)) (b : ℕ) (lt : b < length bs) (full : length 
   upper_size : length (drop 256 (get_or bs b [])) ≡ 256
   upper_size = let all = length-drop 256 (get_or bs b []) in omega arith
 
-  pub split_entries : concat (split_at bs b) ≡ concat bs
+  pub split_entries : joined (split_at bs b) ≡ joined bs
   split_entries = parts_in (take 256 (get_or bs b [])) (drop 256 (get_or bs b [])) bs b lt (sym (take-append-drop 256 (get_or bs b [])))
 
   pub split_blocks : AreBlocks bs → AreBlocks (split_at bs b)

@@ -2,7 +2,6 @@
 use Rattle.std.proofs.Common.{◌≡◌, ℕ, zero, suc, ◌-◌, ◌<◌, ◌≤◌, nat_eq, true, false, ◌&&◌, List, [], length, get_or, nat_lt, Option, is_some, sym, ◌∙◌, ap, arith, inl, inr, refl, add-one, lt-ltb, le-ltb}
 use Rattle.std.proofs.lemmas.Bool.{cases_lt}
 use mir.Val.{bool_byte}
-use Rattle.std.specs.List.{concat}
 use Rattle.std.specs.Option.{unwrap_or}
 use Rattle.std.specs.Ordering.{is_lt}
 use Rattle.mls_leaf.specs.declared.node.Node.{Node}
@@ -10,7 +9,7 @@ use Rattle.mls_tree_index.specs.declared.kind.KeyKind.{KeyKind}
 use Rattle.mls_tree_index.specs.declared.entry.Entry.{Entry}
 use Rattle.mls_tree_index.specs.Keys.{key_in, is_key, is_key_at}
 use Rattle.mls_tree_index.specs.Order.{IsPart, entry_at, entry_cmp}
-use Rattle.mls_tree_index.specs.Blocks.{AreBlocks, first_of, place_in}
+use Rattle.mls_tree_index.specs.Blocks.{AreBlocks, first_of, joined, place_in}
 use Rattle.mls_tree_index.specs.Entries.{AreOrdered, BeginsWithBytes, blank_entry, front_of, fronted, front_cmp, numbers_of}
 use Rattle.mls_tree_index.specs.Searches.{IsPlaceOf, IsLowBefore, IsHighAt, BeginsLow, EndsHigh, is_lower}
 use Rattle.mls_tree_index.proofs.BlockLaws.{place_next, block_within, block_last, entry_in, blocks_full}
@@ -77,13 +76,13 @@ module _ (k : KeyKind) (cells : List (Option Node)) (at : ℕ → Option (List �
       sym (ap (λ v. v && is_key key (key_in k cells (get_or (numbers_of es) p 0))) (le-ltb p (length (numbers_of es)) (omega arith)))
 
 module _ (k : KeyKind) (cells : List (Option Node)) (key : List ℕ) (e : Entry) (bs : List (List Entry)) where
-  low_in : (b o : ℕ) → b < length bs → o ≤ length (get_or bs b []) → 0 < o → is_lower k cells key e (get_or (get_or bs b []) (o - 1) blank_entry) ≡ true → is_lower k cells key e (get_or (concat bs) (place_in bs b o - 1) blank_entry) ≡ true
+  low_in : (b o : ℕ) → b < length bs → o ≤ length (get_or bs b []) → 0 < o → is_lower k cells key e (get_or (get_or bs b []) (o - 1) blank_entry) ≡ true → is_lower k cells key e (get_or (joined bs) (place_in bs b o - 1) blank_entry) ≡ true
   low_in b o lt within some is =
-      ap (λ n. is_lower k cells key e (get_or (concat bs) n blank_entry)) (sym (place_before bs b o some))
+      ap (λ n. is_lower k cells key e (get_or (joined bs) n blank_entry)) (sym (place_before bs b o some))
       ∙ ap (is_lower k cells key e) (entry_in bs b (o - 1) lt (omega arith))
       ∙ is
 
-  low_before : (b o known : ℕ) → b < length bs → o ≤ length (get_or bs b []) → (b ≡ 0 → known ≡ 0) → (0 < b → known ≡ 1) → known ≤ o → BeginsLow k cells key e bs b → IsLowBefore k cells key e (get_or bs b []) known o → 0 < place_in bs b o → is_lower k cells key e (get_or (concat bs) (place_in bs b o - 1) blank_entry) ≡ true
+  low_before : (b o known : ℕ) → b < length bs → o ≤ length (get_or bs b []) → (b ≡ 0 → known ≡ 0) → (0 < b → known ≡ 1) → known ≤ o → BeginsLow k cells key e bs b → IsLowBefore k cells key e (get_or bs b []) known o → 0 < place_in bs b o → is_lower k cells key e (get_or (joined bs) (place_in bs b o - 1) blank_entry) ≡ true
   low_before zero o known lt within none one ge begins before some =
       let start : place_in bs 0 o ≡ o = omega arith in
       let first = none refl in
@@ -97,7 +96,7 @@ module _ (k : KeyKind) (cells : List (Option Node)) (key : List ℕ) (e : Entry)
             low_in (suc b) o lt within (omega arith) (ap (λ n. is_lower k cells key e (get_or (get_or bs (suc b) []) n blank_entry)) at ∙ begins (omega arith))
       ]
 
-  high_at : AreBlocks bs → (b o : ℕ) → b < length bs → o ≤ length (get_or bs b []) → IsHighAt k cells key e (get_or bs b []) o → EndsHigh k cells key e bs b → place_in bs b o < length (concat bs) → is_lower k cells key e (get_or (concat bs) (place_in bs b o) blank_entry) ≡ false
+  high_at : AreBlocks bs → (b o : ℕ) → b < length bs → o ≤ length (get_or bs b []) → IsHighAt k cells key e (get_or bs b []) o → EndsHigh k cells key e bs b → place_in bs b o < length (joined bs) → is_lower k cells key e (get_or (joined bs) (place_in bs b o) blank_entry) ≡ false
   high_at are b o lt within high ends inside = elim (cases_lt o (length (get_or bs b []))) [
     | inl less ↦ ap (is_lower k cells key e) (entry_in bs b o lt less) ∙ high less
     | inr all ↦ elim (cases_lt (suc b) (length bs)) [
@@ -105,7 +104,7 @@ module _ (k : KeyKind) (cells : List (Option Node)) (key : List ℕ) (e : Entry)
           let one = add-one b in
           let next = place_next bs b 0 lt in
           let at : place_in bs b o ≡ place_in bs (suc b) 0 = omega arith in
-          ap (λ n. is_lower k cells key e (get_or (concat bs) n blank_entry)) at
+          ap (λ n. is_lower k cells key e (get_or (joined bs) n blank_entry)) at
           ∙ ap (is_lower k cells key e) (entry_in bs (suc b) 0 more (blocks_full bs (suc b) are (omega arith) more))
           ∙ ap (λ n. is_lower k cells key e (first_of bs n)) (sym one)
           ∙ ends (omega arith)
@@ -115,11 +114,11 @@ module _ (k : KeyKind) (cells : List (Option Node)) (key : List ℕ) (e : Entry)
     ]
   ]
 
-  pub spot_gap : AreBlocks bs → BeginsWithBytes key → e.front ≡ front_of key → (b o known : ℕ) → b < length bs → o ≤ length (get_or bs b []) → (b ≡ 0 → known ≡ 0) → (0 < b → known ≡ 1) → known ≤ o → BeginsLow k cells key e bs b → IsLowBefore k cells key e (get_or bs b []) known o → IsHighAt k cells key e (get_or bs b []) o → EndsHigh k cells key e bs b → IsPlaceOf k (concat bs) cells key e.number (place_in bs b o)
+  pub spot_gap : AreBlocks bs → BeginsWithBytes key → e.front ≡ front_of key → (b o known : ℕ) → b < length bs → o ≤ length (get_or bs b []) → (b ≡ 0 → known ≡ 0) → (0 < b → known ≡ 1) → known ≤ o → BeginsLow k cells key e bs b → IsLowBefore k cells key e (get_or bs b []) known o → IsHighAt k cells key e (get_or bs b []) o → EndsHigh k cells key e bs b → IsPlaceOf k (joined bs) cells key e.number (place_in bs b o)
   spot_gap are bytes front b o known lt within none one ge begins before high ends = λ at part es.
       let inside = block_within bs b lt in
-      let wide = length_numbers (concat bs) in
-      let lower = lower_at k cells at part (concat bs) es key bytes e front in
-      gap_between at (key_in k cells) part (numbers_of (concat bs)) es.numbers (key, e.number) (place_in bs b o) (omega arith)
+      let wide = length_numbers (joined bs) in
+      let lower = lower_at k cells at part (joined bs) es key bytes e front in
+      gap_between at (key_in k cells) part (numbers_of (joined bs)) es.numbers (key, e.number) (place_in bs b o) (omega arith)
       (λ some. sym (lower (place_in bs b o - 1) (omega arith)) ∙ low_before b o known lt within none one ge begins before some)
       (λ less. sym (lower (place_in bs b o) (omega arith)) ∙ high_at are b o lt within high ends (omega arith))

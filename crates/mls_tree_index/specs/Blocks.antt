@@ -1,7 +1,7 @@
 -- Lists of entries in blocks, seen as one list.
 use Rattle.std.specs.Prelude.{◌≡◌, ℕ, suc, ◌+◌, ◌-◌, ◌*◌, ◌<◌, ◌≤◌, min, Bool, true, false, cond, List, [], ◌∷◌, ◌++◌, length, take, drop, map, get_or, set, Option, Some, None}
 use Rattle.std.specs.Global.{Vec}
-use Rattle.std.specs.List.{All, concat, insert, list_any, remove}
+use Rattle.std.specs.List.{All, insert, list_any, remove}
 use Rattle.std.specs.Vec.{vec_len, vec_capacity}
 use Rattle.mls_tree_index.specs.Block.{BlockEntries, IsSpare, block_size, half_size}
 use Rattle.mls_tree_index.specs.Entries.{blank_entry}
@@ -13,6 +13,11 @@ pub record BlockList : Type 0 where
   pub blocks : List (List Entry)
   pub room : ℕ
   pub shared : Bool
+
+-- the entries of blocks, one block behind the other
+abbrev pub joined : List (List Entry) → List Entry
+joined [] = []
+joined (x ∷ bs) = x ++ joined bs
 
 -- the entries of each block
 abbrev pub blocks_of : List BlockEntries → List (List Entry)
@@ -57,7 +62,7 @@ PushesBlock es old new = blocks_of new ≡ blocks_of old ++ es ∷ []
 
 -- how many entries stand before an offset of a block
 abbrev pub place_in : List (List Entry) → ℕ → ℕ → ℕ
-place_in bs b offset = length (concat (take b bs)) + offset
+place_in bs b offset = length (joined (take b bs)) + offset
 
 -- how many entries stand before a place
 abbrev pub place_of : List (List Entry) → Spot → ℕ
@@ -89,8 +94,8 @@ IsEntryAt es p (Some e) = (p < length es) × (get_or es p blank_entry ≡ e)
 
 -- an entry was put at a place
 abbrev pub PutsEntry : Spot → Entry → BlockList → BlockList → Type 0
-PutsEntry s e old new = concat new.blocks ≡ insert (concat old.blocks) (place_of old.blocks s) e
+PutsEntry s e old new = joined new.blocks ≡ insert (joined old.blocks) (place_of old.blocks s) e
 
 -- the entry behind a place was taken out
 abbrev pub TakesEntry : Spot → BlockList → BlockList → Type 0
-TakesEntry s old new = concat new.blocks ≡ remove (concat old.blocks) (place_of old.blocks s)
+TakesEntry s old new = joined new.blocks ≡ remove (joined old.blocks) (place_of old.blocks s)

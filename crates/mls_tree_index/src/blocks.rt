@@ -1,10 +1,10 @@
 //! A list of entries in blocks, so that an edit moves entries of one block alone.
 
 ghost use Rattle.std.specs.Prelude.{◌≡◌, ℕ, ◌+◌, ◌-◌, ◌<◌, ◌≤◌, suc, [], true, false, length, get_or, vec_len, IfOk, OnOk};
-ghost use Rattle.std.specs.List.{concat, insert, remove};
+ghost use Rattle.std.specs.List.{insert, remove};
 ghost use Rattle.std.specs.Vec.{vec_capacity};
 ghost use Rattle.mls_tree_index.specs.Block.{IsSpare, block_size};
-ghost use Rattle.mls_tree_index.specs.Blocks.{AreBlocks, AreKept, IsEntryAt, IsOpenAt, IsOwnAt, IsSpot, PushesBlock, PutsEntry, TakesEntry, are_shared, blocks_of, least_free, place_in, place_of, room_of, split_at};
+ghost use Rattle.mls_tree_index.specs.Blocks.{AreBlocks, AreKept, IsEntryAt, IsOpenAt, IsOwnAt, IsSpot, PushesBlock, PutsEntry, TakesEntry, are_shared, blocks_of, joined, least_free, place_in, place_of, room_of, split_at};
 
 use crate::block::{BLOCK_SIZE, Block, HALF_SIZE, entry_in, make_block};
 use crate::entry::Entry;
@@ -168,7 +168,7 @@ fn make_way(list: &mut Vec<Block>, spares: &mut Vec<Vec<Entry>>, spot: Spot) -> 
     ensures room { vec_len spares.old ≤ suc (vec_len spares.new) }
     ensures free { vec_len spares.old + least_free (blocks_of list.old.items) ≤
         vec_len spares.new + suc (least_free (blocks_of list.new.items) - 1) }
-    ensures entries { concat (blocks_of list.new.items) ≡ concat (blocks_of list.old.items) }
+    ensures entries { joined (blocks_of list.new.items) ≡ joined (blocks_of list.old.items) }
     ensures spot { IsOpenAt (blocks_of list.new.items) result }
     ensures place { place_of (blocks_of list.new.items) result ≡
         place_of (blocks_of list.old.items) spot }
@@ -202,7 +202,7 @@ fn take_from(list: &mut Vec<Block>, b: usize, offset: usize)
     ensures len { vec_len list.new ≤ vec_len list.old }
     ensures capacity { vec_capacity list.new ≡ vec_capacity list.old }
     ensures free { least_free (blocks_of list.old.items) ≤ least_free (blocks_of list.new.items) }
-    ensures entries { concat (blocks_of list.new.items) ≡ remove (concat (blocks_of list.old.items))
+    ensures entries { joined (blocks_of list.new.items) ≡ remove (joined (blocks_of list.old.items))
         (place_in (blocks_of list.old.items) b offset) }
     ensures others { are_shared list.old.items ≡ false → are_shared list.new.items ≡ false }
 {
@@ -262,7 +262,7 @@ fn own_all(list: &mut Vec<Block>) -> Result<(), AllocError>
 impl Blocks {
     /// The list of these entries.
     pub(crate) fn new(alloc: Global, entries: &[Entry]) -> Result<Blocks, AllocError>
-        ensures entries { IfOk result (λ b. concat b.blocks ≡ entries.now) }
+        ensures entries { IfOk result (λ b. joined b.blocks ≡ entries.now) }
         ensures own { IfOk result (λ b. b.shared ≡ false) }
     {
         let mut list = Vec::new(alloc);
@@ -298,7 +298,7 @@ impl Blocks {
     /// The entry behind a place, where there is one.
     pub(crate) fn entry_at(&self, spot: Spot) -> Option<Entry>
         requires { IsSpot self.now.blocks spot }
-        ensures { IsEntryAt (concat self.now.blocks) (place_of self.now.blocks spot) result }
+        ensures { IsEntryAt (joined self.now.blocks) (place_of self.now.blocks spot) result }
     {
         let block = self.block(spot.block);
         if spot.offset < block.len() {
@@ -367,7 +367,7 @@ impl Blocks {
         requires block { b < length self.old.blocks }
         requires offset { offset < length (get_or self.old.blocks b []) }
         ensures room { self.old.room ≤ suc self.new.room }
-        ensures entries { concat self.new.blocks ≡ remove (concat self.old.blocks)
+        ensures entries { joined self.new.blocks ≡ remove (joined self.old.blocks)
             (place_in self.old.blocks b offset) }
         ensures own { self.old.shared ≡ false → self.new.shared ≡ false }
         ensures stays { self.old.shared ≡ false → self.old.room ≤ self.new.room }
@@ -382,9 +382,9 @@ impl Blocks {
         requires room { self.old.shared ≡ true → 0 < self.old.room }
         requires spot { IsSpot self.old.blocks spot }
         ensures room { self.old.room ≤ suc self.new.room }
-        ensures some { place_of self.old.blocks spot < length (concat self.old.blocks) →
+        ensures some { place_of self.old.blocks spot < length (joined self.old.blocks) →
             TakesEntry spot self.old self.new }
-        ensures none { length (concat self.old.blocks) ≤ place_of self.old.blocks spot →
+        ensures none { length (joined self.old.blocks) ≤ place_of self.old.blocks spot →
             self.new ≡ self.old }
         ensures own { self.old.shared ≡ false → self.new.shared ≡ false }
         ensures stays { self.old.shared ≡ false → self.old.room ≤ self.new.room }

@@ -24,14 +24,14 @@ pub struct Index {
 }
 
 impl Model for Index {
-    ghost use Rattle.std.specs.List.{concat};
+    ghost use Rattle.mls_tree_index.specs.Blocks.{joined};
     ghost use Rattle.mls_tree_index.specs.Indexes.{Listing};
 
     ghost Value = { Listing };
 
     ghost view = { λ t. record {
       kind = t.kind;
-      entries = concat t.blocks.blocks;
+      entries = joined t.blocks.blocks;
       repeats = t.repeats;
       room = t.blocks.room;
       shared = t.blocks.shared;

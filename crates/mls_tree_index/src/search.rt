@@ -1,8 +1,7 @@
 //! Searches by halves: over the blocks, which begin where keys as good as random stand, and then within one.
 
 ghost use Rattle.std.specs.Prelude.{◌≡◌, ◌+◌, ◌<◌, ◌≤◌, length};
-ghost use Rattle.std.specs.List.{concat};
-ghost use Rattle.mls_tree_index.specs.Blocks.{AreBlocks, IsInner, IsSpot, first_of, place_of};
+ghost use Rattle.mls_tree_index.specs.Blocks.{AreBlocks, IsInner, IsSpot, first_of, joined, place_of};
 ghost use Rattle.mls_tree_index.specs.Entries.{front_of};
 ghost use Rattle.mls_tree_index.specs.Searches.{AnswersAround, AnswersAt, BeginsLow, EndsHigh, IsHighAt, IsLowBefore, IsPlaceOf, is_lower};
 
@@ -110,7 +109,7 @@ impl Blocks {
         requires { entry.front ≡ front_of key.now }
         ensures spot { IsSpot self.now.blocks result }
         ensures inner { IsInner result }
-        ensures gap { IsPlaceOf kind (concat self.now.blocks) cells.now.nodes key.now entry.number
+        ensures gap { IsPlaceOf kind (joined self.now.blocks) cells.now.nodes key.now entry.number
             (place_of self.now.blocks result) }
     {
         let block = self.block_for(kind, cells, key, entry);
@@ -131,7 +130,7 @@ impl Blocks {
     ) -> bool
         requires spot { IsSpot self.now.blocks spot }
         requires front { front ≡ front_of key.now }
-        ensures { AnswersAt kind (concat self.now.blocks) cells.now.nodes
+        ensures { AnswersAt kind (joined self.now.blocks) cells.now.nodes
             (place_of self.now.blocks spot) key.now result }
     {
         match self.entry_at(spot) {
@@ -153,7 +152,7 @@ impl Blocks {
         requires spot { IsSpot self.now.blocks spot }
         requires inner { IsInner spot }
         requires front { front ≡ front_of key.now }
-        ensures { AnswersAround kind (concat self.now.blocks) cells.now.nodes
+        ensures { AnswersAround kind (joined self.now.blocks) cells.now.nodes
             (place_of self.now.blocks spot) key.now result }
     {
         if self.is_key_at(kind, cells, spot, key, front) {

@@ -1,10 +1,10 @@
 use Rattle.std.proofs.Common.{◌≡◌, ◌+◌, ◌-◌, [], get_or, length, refl, sym, ◌∙◌, ap, subst, arith, add-one}
-use Rattle.std.specs.List.{All, concat}
+use Rattle.std.specs.List.{All}
 use Rattle.std.specs.Vec.{vec_len}
 use Rattle.std.proofs.lemmas.List.Elements.{All-take}
 use Rattle.mls_tree_index.specs.declared.blocks.Spot.{Spot}
 use Rattle.mls_tree_index.specs.Block.{IsSpare}
-use Rattle.mls_tree_index.specs.Blocks.{AreBlocks, IsOpenAt, blocks_of, place_in, place_of}
+use Rattle.mls_tree_index.specs.Blocks.{AreBlocks, IsOpenAt, blocks_of, joined, place_in, place_of}
 use Rattle.mls_tree_index.proofs.BlockLaws.{count_of, place_here, read_at, split_blocks, split_here, split_entries, split_there, place_there}
 use Rattle.mls_tree_index.proofs.RoomLaws.{least_at}
 use Rattle.mls_tree_index.proofs.blocks.make_way.Goals as goal
@@ -87,7 +87,7 @@ returns-then-spot-le-HALF_SIZE-clause-entries c =
     let few = c.entries.ensures.few in
     let ge = c.if-entries-lt-BLOCK_SIZE.false in
     let full : length (get_or (blocks_of vs) b []) ≡ 512 = omega arith in
-    ap concat c.split_block.ensures.blocks ∙ split_entries (blocks_of vs) b lt full
+    ap joined c.split_block.ensures.blocks ∙ split_entries (blocks_of vs) b lt full
 
 pub returns-then-spot-le-HALF_SIZE-clause-spot : goal.returns-then-spot-le-HALF_SIZE-clause-spot
 returns-then-spot-le-HALF_SIZE-clause-spot c =
@@ -146,7 +146,7 @@ returns-clause-entries c =
     let few = c.entries.ensures.few in
     let ge = c.if-entries-lt-BLOCK_SIZE.false in
     let full : length (get_or (blocks_of vs) b []) ≡ 512 = omega arith in
-    ap concat c.split_block.ensures.blocks ∙ split_entries (blocks_of vs) b lt full
+    ap joined c.split_block.ensures.blocks ∙ split_entries (blocks_of vs) b lt full
 
 pub returns-clause-spot : goal.returns-clause-spot
 returns-clause-spot c =

@@ -1,8 +1,8 @@
 use Rattle.std.proofs.Common.{◌≤◌, [], get_or, length, set, sym, ◌∙◌, ap, subst, arith}
-use Rattle.std.specs.List.{concat, remove}
+use Rattle.std.specs.List.{remove}
 use Rattle.std.proofs.lemmas.List.Edits.{length-remove}
 use Rattle.mls_tree_index.specs.Block.{BlockEntries}
-use Rattle.mls_tree_index.specs.Blocks.{AreBlocks, are_shared, blocks_of, least_free}
+use Rattle.mls_tree_index.specs.Blocks.{AreBlocks, are_shared, blocks_of, joined, least_free}
 use Rattle.mls_tree_index.proofs.BlockLaws.{blocks_left, blocks_only, blocks_set, count_of, empty_goes, map_remove, own_remove, own_set, own_within, read_at, remove_in, set_at}
 use Rattle.mls_tree_index.proofs.RoomLaws.{least_at, least_remove, least_set}
 use Rattle.mls_tree_index.proofs.blocks.take_from.Goals as goal
@@ -24,7 +24,7 @@ returns-then-left-gt0-clause-entries c =
     let count = count_of vs in
     let lt = own_within vs b c.requires.own in
     let items = ap (λ (w : BlockEntries). w.entries) c.take_out-left.ensures.entries ∙ ap (λ ns. remove ns o) (read_at vs b c.index_mut.result.now lt c.index_mut.ensures.value) in
-    ap concat (set_at vs b v ∙ ap (set (blocks_of vs) b) items) ∙ remove_in (blocks_of vs) b o (omega arith) c.requires.offset
+    ap joined (set_at vs b v ∙ ap (set (blocks_of vs) b) items) ∙ remove_in (blocks_of vs) b o (omega arith) c.requires.offset
 
 pub returns-then-left-gt0-clause-others : goal.returns-then-left-gt0-clause-others
 returns-then-left-gt0-clause-others c = λ none.
@@ -51,9 +51,9 @@ returns-then-len-gt1-clause-entries c =
     let items = ap (λ (w : BlockEntries). w.entries) c.take_out-left.ensures.entries ∙ ap (λ ns. remove ns o) (read_at vs b c.index_mut.result.now lt c.index_mut.ensures.value) in
     let none = c.if-left-gt0.false in
     let left = c.take_out-left.ensures.left in
-    ap (λ us. concat (blocks_of us)) c.remove-block.ensures.items
+    ap (λ us. joined (blocks_of us)) c.remove-block.ensures.items
     ∙ empty_goes vs b v lt (omega arith)
-    ∙ ap concat (set_at vs b v ∙ ap (set (blocks_of vs) b) items)
+    ∙ ap joined (set_at vs b v ∙ ap (set (blocks_of vs) b) items)
     ∙ remove_in (blocks_of vs) b o (omega arith) c.requires.offset
 
 pub returns-then-len-gt1-clause-others : goal.returns-then-len-gt1-clause-others
@@ -83,7 +83,7 @@ returns-else-len-gt1-clause-entries c =
     let count = count_of vs in
     let lt = own_within vs b c.requires.own in
     let items = ap (λ (w : BlockEntries). w.entries) c.take_out-left.ensures.entries ∙ ap (λ ns. remove ns o) (read_at vs b c.index_mut.result.now lt c.index_mut.ensures.value) in
-    ap concat (set_at vs b v ∙ ap (set (blocks_of vs) b) items) ∙ remove_in (blocks_of vs) b o (omega arith) c.requires.offset
+    ap joined (set_at vs b v ∙ ap (set (blocks_of vs) b) items) ∙ remove_in (blocks_of vs) b o (omega arith) c.requires.offset
 
 pub returns-else-len-gt1-clause-others : goal.returns-else-len-gt1-clause-others
 returns-else-len-gt1-clause-others c = λ none.

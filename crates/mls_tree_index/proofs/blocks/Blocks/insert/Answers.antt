@@ -1,10 +1,10 @@
 use Rattle.std.proofs.Common.{◌-◌, length, set, sym, ◌∙◌, ap, subst, arith, inl, inr}
-use Rattle.std.specs.List.{concat, insert}
+use Rattle.std.specs.List.{insert}
 use Rattle.std.specs.Vec.{vec_len}
 use Rattle.std.proofs.lemmas.Bool.{cases_Bool}
 use Rattle.std.proofs.lemmas.List.Edits.{length-insert}
 use Rattle.mls_tree_index.specs.Block.{BlockEntries}
-use Rattle.mls_tree_index.specs.Blocks.{AreBlocks, BlockList, are_shared, blocks_of, least_free, place_of}
+use Rattle.mls_tree_index.specs.Blocks.{AreBlocks, BlockList, are_shared, blocks_of, joined, least_free, place_of}
 use Rattle.mls_tree_index.proofs.BlockLaws.{blocks_set, count_of, insert_in, own_set, own_within, read_at, set_at}
 use Rattle.mls_tree_index.proofs.RoomLaws.{least_at, least_set, room_left, room_own, room_shared}
 use Rattle.mls_tree_index.proofs.blocks.Blocks.insert.Goals as goal
@@ -35,12 +35,12 @@ returns-clause-entries c =
     let found = c.make_way-spot.ensures.spot in
     let lt = own_within vs b c.make_way-spot.ensures.own in
     let items = ap (λ (w : BlockEntries). w.entries) c.put_in.ensures ∙ ap (λ ns. insert ns o c.args.entry) (read_at vs b c.index_mut.result.now lt c.index_mut.ensures.value) in
-    ap concat (set_at vs b c.put_in.new.self ∙ ap (set (blocks_of vs) b) items)
+    ap joined (set_at vs b c.put_in.new.self ∙ ap (set (blocks_of vs) b) items)
     ∙ insert_in (blocks_of vs) b o c.args.entry found.block found.offset
     ∙ ap (λ ns. insert ns (place_of (blocks_of vs) c.make_way-spot.result) c.args.entry) c.make_way-spot.ensures.entries
-    ∙ ap (λ n. insert (concat (blocks_of c.own_block.new.list.items)) n c.args.entry) c.make_way-spot.ensures.place
-    ∙ ap (λ bs. insert (concat bs) (place_of bs c.args.spot) c.args.entry) c.own_block.ensures.blocks
-    ∙ ap (λ (t : BlockList). insert (concat t.blocks) (place_of t.blocks c.args.spot) c.args.entry) c.self.view_is
+    ∙ ap (λ n. insert (joined (blocks_of c.own_block.new.list.items)) n c.args.entry) c.make_way-spot.ensures.place
+    ∙ ap (λ bs. insert (joined bs) (place_of bs c.args.spot) c.args.entry) c.own_block.ensures.blocks
+    ∙ ap (λ (t : BlockList). insert (joined t.blocks) (place_of t.blocks c.args.spot) c.args.entry) c.self.view_is
 
 pub returns-clause-own : goal.returns-clause-own
 returns-clause-own c = λ none.

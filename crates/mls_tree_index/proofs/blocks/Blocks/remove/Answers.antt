@@ -1,5 +1,6 @@
 use Rattle.std.proofs.Common.{◌+◌, [], get_or, length, ◌∙◌, ap, arith, add-one}
-use Rattle.std.specs.List.{concat, remove}
+use Rattle.std.specs.List.{remove}
+use Rattle.mls_tree_index.specs.Blocks.{joined}
 use Rattle.mls_tree_index.proofs.BlockLaws.{block_within, blocks_full, next_entry, no_entry, place_end}
 use Rattle.mls_tree_index.proofs.blocks.Blocks.remove.Goals as goal
 
@@ -22,7 +23,7 @@ returns-then-spot-last-clause-some c = λ inside.
     let same = ap length c.block-block.ensures.entries in
     let past = c.if-spot-block.false in
     let low = c.requires.spot.offset in
-    c.take-then-spot-last.ensures.entries ∙ ap (remove (concat bs)) (place_end bs c.args.spot.block c.args.spot.offset c.requires.spot.block (omega arith))
+    c.take-then-spot-last.ensures.entries ∙ ap (remove (joined bs)) (place_end bs c.args.spot.block c.args.spot.offset c.requires.spot.block (omega arith))
 
 pub returns-then-spot-last-clause-none : goal.returns-then-spot-last-clause-none
 returns-then-spot-last-clause-none c = λ past.

@@ -1,6 +1,5 @@
 use Rattle.std.proofs.Common.{refl, sym, ◌∙◌, ap, subst, arith}
-use Rattle.std.specs.List.{concat}
-use Rattle.mls_tree_index.specs.Blocks.{place_of}
+use Rattle.mls_tree_index.specs.Blocks.{joined, place_of}
 use Rattle.mls_tree_index.specs.Indexes.{Listing}
 use Rattle.mls_tree_index.specs.Keys.{key_in}
 use Rattle.mls_tree_index.specs.Searches.{IsPlaceOf}
@@ -18,8 +17,8 @@ returns-then-not-again-clause-entered c =
     let kinds = ap (λ (t : Listing). t.kind) c.self.view_is in
     let entries = ap (λ (t : Listing). t.entries) c.self.view_is in
     let key = ap (λ j. key_in j c.args.cells.now.nodes c.args.x) (sym kinds) ∙ sym c.in-Some.ensures in
-    let place = subst (λ n. IsPlaceOf c.self.inside.kind (concat c.self.inside.blocks.blocks) c.args.cells.now.nodes c.in-Some.key.now n (place_of c.self.inside.blocks.blocks c.spot_of-spot.result)) c.new-entry.ensures.number c.spot_of-spot.ensures.gap in
-    enters_new c.args.x c.args.cells.now.nodes c.args.self.now c.self.inside.kind (concat c.self.inside.blocks.blocks) c.in-Some.key.now (place_of c.self.inside.blocks.blocks c.spot_of-spot.result) c.is_beside-again.result c.new-entry.result kinds entries key c.new-entry.ensures.number c.new-entry.ensures.front c.new-entry.ensures.bytes place c.is_beside-again.ensures
+    let place = subst (λ n. IsPlaceOf c.self.inside.kind (joined c.self.inside.blocks.blocks) c.args.cells.now.nodes c.in-Some.key.now n (place_of c.self.inside.blocks.blocks c.spot_of-spot.result)) c.new-entry.ensures.number c.spot_of-spot.ensures.gap in
+    enters_new c.args.x c.args.cells.now.nodes c.args.self.now c.self.inside.kind (joined c.self.inside.blocks.blocks) c.in-Some.key.now (place_of c.self.inside.blocks.blocks c.spot_of-spot.result) c.is_beside-again.result c.new-entry.result kinds entries key c.new-entry.ensures.number c.new-entry.ensures.front c.new-entry.ensures.bytes place c.is_beside-again.ensures
     _ refl c.insert.ensures.entries (ap (λ (t : Listing). t.repeats) c.self.view_is) c.if-not-again.true
 
 pub returns-then-self-len-clause-entered : goal.returns-then-self-len-clause-entered
@@ -27,9 +26,9 @@ returns-then-self-len-clause-entered c =
     let kinds = ap (λ (t : Listing). t.kind) c.self.view_is in
     let entries = ap (λ (t : Listing). t.entries) c.self.view_is in
     let key = ap (λ j. key_in j c.args.cells.now.nodes c.args.x) (sym kinds) ∙ sym c.in-Some.ensures in
-    let place = subst (λ n. IsPlaceOf c.self.inside.kind (concat c.self.inside.blocks.blocks) c.args.cells.now.nodes c.in-Some.key.now n (place_of c.self.inside.blocks.blocks c.spot_of-spot.result)) c.new-entry.ensures.number c.spot_of-spot.ensures.gap in
+    let place = subst (λ n. IsPlaceOf c.self.inside.kind (joined c.self.inside.blocks.blocks) c.args.cells.now.nodes c.in-Some.key.now n (place_of c.self.inside.blocks.blocks c.spot_of-spot.result)) c.new-entry.ensures.number c.spot_of-spot.ensures.gap in
     let repeats = ap (λ (t : Listing). t.repeats) c.self.view_is in
-    enters_again c.args.x c.args.cells.now.nodes c.args.self.now c.self.inside.kind (concat c.self.inside.blocks.blocks) c.in-Some.key.now (place_of c.self.inside.blocks.blocks c.spot_of-spot.result) c.is_beside-again.result c.new-entry.result kinds entries key c.new-entry.ensures.number c.new-entry.ensures.front c.new-entry.ensures.bytes place c.is_beside-again.ensures
+    enters_again c.args.x c.args.cells.now.nodes c.args.self.now c.self.inside.kind (joined c.self.inside.blocks.blocks) c.in-Some.key.now (place_of c.self.inside.blocks.blocks c.spot_of-spot.result) c.is_beside-again.result c.new-entry.result kinds entries key c.new-entry.ensures.number c.new-entry.ensures.front c.new-entry.ensures.bytes place c.is_beside-again.ensures
     _ refl c.insert.ensures.entries (omega arith) c.if-not-again.false
 
 pub returns-else-self-len-clause-entered : goal.returns-else-self-len-clause-entered
@@ -37,9 +36,9 @@ returns-else-self-len-clause-entered c =
     let kinds = ap (λ (t : Listing). t.kind) c.self.view_is in
     let entries = ap (λ (t : Listing). t.entries) c.self.view_is in
     let key = ap (λ j. key_in j c.args.cells.now.nodes c.args.x) (sym kinds) ∙ sym c.in-Some.ensures in
-    let place = subst (λ n. IsPlaceOf c.self.inside.kind (concat c.self.inside.blocks.blocks) c.args.cells.now.nodes c.in-Some.key.now n (place_of c.self.inside.blocks.blocks c.spot_of-spot.result)) c.new-entry.ensures.number c.spot_of-spot.ensures.gap in
+    let place = subst (λ n. IsPlaceOf c.self.inside.kind (joined c.self.inside.blocks.blocks) c.args.cells.now.nodes c.in-Some.key.now n (place_of c.self.inside.blocks.blocks c.spot_of-spot.result)) c.new-entry.ensures.number c.spot_of-spot.ensures.gap in
     let repeats = ap (λ (t : Listing). t.repeats) c.self.view_is in
     let long = c.len.ensures.nodes in
     let past = c.if-self-len.false in
-    enters_never c.args.x c.args.cells.now.nodes c.args.self.now c.self.inside.kind (concat c.self.inside.blocks.blocks) c.in-Some.key.now (place_of c.self.inside.blocks.blocks c.spot_of-spot.result) c.is_beside-again.result c.new-entry.result kinds entries key c.new-entry.ensures.number c.new-entry.ensures.front c.new-entry.ensures.bytes place c.is_beside-again.ensures
-    (record { kind = c.self.inside.kind; entries = concat c.insert.new.self.blocks; repeats = c.self.inside.repeats; room = c.insert.new.self.room; shared = c.insert.new.self.shared }) c.if-not-again.false (omega arith)
+    enters_never c.args.x c.args.cells.now.nodes c.args.self.now c.self.inside.kind (joined c.self.inside.blocks.blocks) c.in-Some.key.now (place_of c.self.inside.blocks.blocks c.spot_of-spot.result) c.is_beside-again.result c.new-entry.result kinds entries key c.new-entry.ensures.number c.new-entry.ensures.front c.new-entry.ensures.bytes place c.is_beside-again.ensures
+    (record { kind = c.self.inside.kind; entries = joined c.insert.new.self.blocks; repeats = c.self.inside.repeats; room = c.insert.new.self.room; shared = c.insert.new.self.shared }) c.if-not-again.false (omega arith)

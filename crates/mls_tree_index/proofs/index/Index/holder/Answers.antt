@@ -1,7 +1,6 @@
 use Rattle.std.proofs.Common.{refl, ◌&&◌, nat_eq, sym, ◌∙◌, ap, subst, arith}
 use Rattle.std.proofs.lemmas.Bool.{and_parts}
-use Rattle.std.specs.List.{concat}
-use Rattle.mls_tree_index.specs.Blocks.{place_of}
+use Rattle.mls_tree_index.specs.Blocks.{joined, place_of}
 use Rattle.mls_tree_index.specs.Entries.{AreOrdered, front_of, numbers_of}
 use Rattle.mls_tree_index.specs.Indexes.{Listing}
 use Rattle.mls_tree_index.specs.Keys.{is_held, is_key, key_in}
@@ -15,7 +14,7 @@ pub returns-in_default : goal.returns-in_default
 returns-in_default c = λ is.
     let s = c.args.self.now in
     let kind = c.self.inside.kind in
-    let es = concat c.self.inside.blocks.blocks in
+    let es = joined c.self.inside.blocks.blocks in
     let cells = c.args.cells.now.nodes in
     let p = place_of c.self.inside.blocks.blocks c.spot_of-spot.result in
     let kinds = ap (λ (t : Listing). t.kind) c.self.view_is in
@@ -38,7 +37,7 @@ pub returns-else-is_of : goal.returns-else-is_of
 returns-else-is_of c = λ is.
     let s = c.args.self.now in
     let kind = c.self.inside.kind in
-    let es = concat c.self.inside.blocks.blocks in
+    let es = joined c.self.inside.blocks.blocks in
     let cells = c.args.cells.now.nodes in
     let p = place_of c.self.inside.blocks.blocks c.spot_of-spot.result in
     let kinds = ap (λ (t : Listing). t.kind) c.self.view_is in

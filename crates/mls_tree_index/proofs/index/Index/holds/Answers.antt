@@ -1,6 +1,5 @@
 use Rattle.std.proofs.Common.{◌∙◌, ap, subst}
-use Rattle.std.specs.List.{concat}
-use Rattle.mls_tree_index.specs.Blocks.{place_of}
+use Rattle.mls_tree_index.specs.Blocks.{joined, place_of}
 use Rattle.mls_tree_index.specs.Entries.{numbers_of}
 use Rattle.mls_tree_index.specs.Indexes.{Listing}
 use Rattle.mls_tree_index.specs.Keys.{key_in}
@@ -12,7 +11,7 @@ pub returns : goal.returns
 returns c = λ d part are.
     let s = c.args.self.now in
     let kind = c.self.inside.kind in
-    let es = concat c.self.inside.blocks.blocks in
+    let es = joined c.self.inside.blocks.blocks in
     let cells = c.args.cells.now.nodes in
     let p = place_of c.self.inside.blocks.blocks c.spot_of-spot.result in
     let kinds = ap (λ (t : Listing). t.kind) c.self.view_is in

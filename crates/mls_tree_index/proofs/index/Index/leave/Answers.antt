@@ -1,6 +1,6 @@
 use Rattle.std.proofs.Common.{◌≡◌, length, sym, ◌∙◌, ap, subst, arith}
-use Rattle.std.specs.List.{concat, remove}
-use Rattle.mls_tree_index.specs.Blocks.{place_of}
+use Rattle.std.specs.List.{remove}
+use Rattle.mls_tree_index.specs.Blocks.{joined, place_of}
 use Rattle.mls_tree_index.specs.Indexes.{Listing}
 use Rattle.mls_tree_index.specs.Keys.{key_in, keys_of, is_held, repeats_in}
 use Rattle.mls_tree_index.specs.Order.{IsPart}
@@ -19,7 +19,7 @@ pub returns-then-self-eq0-clause-left : goal.returns-then-self-eq0-clause-left
 returns-then-self-eq0-clause-left c = λ b d without is.
     let s = c.args.self.now in
     let kind = c.self.inside.kind in
-    let es = concat c.self.inside.blocks.blocks in
+    let es = joined c.self.inside.blocks.blocks in
     let cells = c.args.cells.now.nodes in
     let p = place_of c.self.inside.blocks.blocks c.spot_of-spot.result in
     let kinds = ap (λ (t : Listing). t.kind) c.self.view_is in
@@ -44,7 +44,7 @@ pub returns-then-holds-clause-left : goal.returns-then-holds-clause-left
 returns-then-holds-clause-left c = λ b d without is.
     let s = c.args.self.now in
     let kind = c.self.inside.kind in
-    let es = concat c.self.inside.blocks.blocks in
+    let es = joined c.self.inside.blocks.blocks in
     let cells = c.args.cells.now.nodes in
     let p = place_of c.self.inside.blocks.blocks c.spot_of-spot.result in
     let kinds = ap (λ (t : Listing). t.kind) c.self.view_is in
@@ -60,7 +60,7 @@ returns-then-holds-clause-left c = λ b d without is.
     let wide = ap length entries in
     let all = c.remove.ensures.some (omega arith) ∙ ap (λ fs. remove fs p) entries in
     let old : c.self.inside.repeats ≡ repeats_in (keys_of s.kind d) = ap (λ (t : Listing). t.repeats) c.self.view_is ∙ is.repeats in
-    let there = subst (λ j. AreOrdered (key_in j b) (concat c.remove.new.self.blocks)) (sym kinds) (subst (AreOrdered (key_in s.kind b)) (sym all) rest) in
+    let there = subst (λ j. AreOrdered (key_in j b) (joined c.remove.new.self.blocks)) (sym kinds) (subst (AreOrdered (key_in s.kind b)) (sym all) rest) in
     let held = c.holds.ensures b (subst (λ j. IsPart (key_in j b) (key_in j cells)) (sym kinds) part) there ∙ ap (λ j. is_held j b k) kinds in
     let one = one_held x cells b d s without k key (sym c.if-holds.true ∙ held) in
     indexes_from s.kind (remove s.entries p) b _ kinds all rest (omega arith)
@@ -69,7 +69,7 @@ pub returns-else-holds-clause-left : goal.returns-else-holds-clause-left
 returns-else-holds-clause-left c = λ b d without is.
     let s = c.args.self.now in
     let kind = c.self.inside.kind in
-    let es = concat c.self.inside.blocks.blocks in
+    let es = joined c.self.inside.blocks.blocks in
     let cells = c.args.cells.now.nodes in
     let p = place_of c.self.inside.blocks.blocks c.spot_of-spot.result in
     let kinds = ap (λ (t : Listing). t.kind) c.self.view_is in
@@ -85,7 +85,7 @@ returns-else-holds-clause-left c = λ b d without is.
     let wide = ap length entries in
     let all = c.remove.ensures.some (omega arith) ∙ ap (λ fs. remove fs p) entries in
     let old : c.self.inside.repeats ≡ repeats_in (keys_of s.kind d) = ap (λ (t : Listing). t.repeats) c.self.view_is ∙ is.repeats in
-    let there = subst (λ j. AreOrdered (key_in j b) (concat c.remove.new.self.blocks)) (sym kinds) (subst (AreOrdered (key_in s.kind b)) (sym all) rest) in
+    let there = subst (λ j. AreOrdered (key_in j b) (joined c.remove.new.self.blocks)) (sym kinds) (subst (AreOrdered (key_in s.kind b)) (sym all) rest) in
     let held = c.holds.ensures b (subst (λ j. IsPart (key_in j b) (key_in j cells)) (sym kinds) part) there ∙ ap (λ j. is_held j b k) kinds in
     let none = none_held x cells b d s without k key (sym c.if-holds.false ∙ held) in
     indexes_from s.kind (remove s.entries p) b _ kinds all rest (old ∙ none)
