@@ -198,10 +198,10 @@ module _ (at : ℕ → Option (List ℕ)) (d : Entry) (one : IsEntry at d) (key 
   -- by its front and then by its key, it is that of a key where it is by its key
   pub of_by_key : (nat_eq d.front (front_of key) && is_key key (at d.number)) ≡ is_key key (at d.number)
   of_by_key = elim (cases_Bool (is_key key (at d.number))) [
-    | inl yes ↦
-        let same : one.key ≡ key = sym own_key ∙ ap (λ o. unwrap_or o []) (key_found key (at d.number) yes) in
+    | inl is ↦
+        let same : one.key ≡ key = sym own_key ∙ ap (λ o. unwrap_or o []) (key_found key (at d.number) is) in
         ap (λ v. v && is_key key (at d.number)) (eq-eqb d.front (front_of key) (one.front ∙ ap front_of same))
-    | inr no ↦ ap (λ v. nat_eq d.front (front_of key) && v) no ∙ and-false _ ∙ sym no
+    | inr other ↦ ap (λ v. nat_eq d.front (front_of key) && v) other ∙ and-false _ ∙ sym other
   ]
 
   module _ (bytes : BeginsWithBytes key) (x : ℕ) where
