@@ -1,3 +1,4 @@
+pub mod Ciphertexts
 pub mod SignedLaws
 pub mod SignedParts
 pub mod GroupInfoLaws

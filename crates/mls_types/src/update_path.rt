@@ -3,6 +3,7 @@
 ghost use Rattle.mls_types.specs.UpdatePath.{hpke_ciphertext, update_path_node, update_path, hpke_ciphertext_nonempty, update_path_node_nonempty, update_path_nonempty};
 ghost use Rattle.mls_types.specs.GroupReadFaults.{hpke_ciphertext_faults, update_path_node_faults, update_path_faults};
 
+use crate::ciphertexts::Ciphertexts;
 use mls_leaf::{Bytes, Codec, Items, LeafError, LeafNode};
 use mls_wire::{Reader, Writer};
 use std::alloc::Global;
@@ -22,7 +23,7 @@ pub struct UpdatePathNode {
     /// The node's new public key.
     pub encryption_key: Bytes,
     /// The path secret, sealed to each entry of the copath child's resolution.
-    pub ciphertexts: Items<HpkeCiphertext>,
+    pub ciphertexts: Ciphertexts,
 }
 
 /// What a committer sends to renew its direct path (RFC 9420, 7.6).
@@ -76,7 +77,7 @@ impl Codec for UpdatePathNode {
     #[tactic(auto, using(mls_leaf::proofs::Codecs::codecs), unfolding(crate::specs::UpdatePath::update_path_node))]
     fn read(alloc: Global, reader: &mut Reader<'_>) -> Result<UpdatePathNode, LeafError> {
         let encryption_key = Bytes::read(alloc, reader)?;
-        let ciphertexts = Items::<HpkeCiphertext>::read(alloc, reader)?;
+        let ciphertexts = Ciphertexts::read(alloc, reader)?;
         Ok(UpdatePathNode {
             encryption_key,
             ciphertexts,
@@ -86,7 +87,7 @@ impl Codec for UpdatePathNode {
     #[tactic(auto, using(mls_leaf::proofs::Codecs::codecs), unfolding(crate::specs::UpdatePath::update_path_node))]
     fn check(reader: &mut Reader<'_>) -> Result<(), LeafError> {
         Bytes::check(reader)?;
-        Items::<HpkeCiphertext>::check(reader)?;
+        Ciphertexts::check(reader)?;
         Ok(())
     }
 
