@@ -74,7 +74,7 @@ const CIPHERTEXTS: &[(&str, u8)] = &[
     ("00", 0),
     ("0401aa01bb", 0),
     ("0a01aa01bb02ccdd00", 2),
-    ("0901aa01bb02ccdd00", 0),
+    ("0801aa01bb02ccdd00", 0),
     // a text is missing
     ("0501aa01bb00", 2),
     // a longer header than is needed
@@ -87,7 +87,7 @@ fn ciphertexts(rt: HostRuntime) -> Result<(), Fail> {
 }
 
 /// Two ciphertexts: aa with bb, ccdd with no text.
-const TWO_CIPHERTEXTS: &str = "0901aa01bb02ccdd00";
+const TWO_CIPHERTEXTS: &str = "0801aa01bb02ccdd00";
 
 /// Whether these are what is lent, or there is none and the texts are empty.
 fn is_lent(lent: Option<CiphertextRef<'_>>, kem_output: &[u8], ciphertext: &[u8]) -> bool {

@@ -1,18 +1,23 @@
 -- Ciphertexts one after the other, as the loops go that count them and seek one.
-use Rattle.std.proofs.Common.{◌≡◌, ℕ, suc, zero, ◌+◌, ◌<◌, ◌≤◌, List, [], ◌∷◌, ◌++◌, length, drop, get_or, Option, Some, None, Result, Ok, Err, refl, sym, ap, subst, ◌∙◌, arith, length-append, length-drop}
+use Rattle.std.proofs.Common.{◌≡◌, ℕ, suc, zero, ◌+◌, ◌^◌, ◌<◌, ◌≤◌, List, [], ◌∷◌, ◌++◌, length, drop, get_or, Option, Some, None, Result, Ok, Err, refl, sym, ap, subst, ◌∙◌, arith, length-append, length-drop}
 use Rattle.std.specs.List.{flat_map, AllByRecursion, slice_get}
 use Rattle.std.specs.Option.{option_map}
 use Rattle.std.specs.Prelude.{MatchResult}
 use Rattle.std.specs.Result.{result_ok}
 use Rattle.std.proofs.lemmas.List.{drop_all}
 use Rattle.std.proofs.lemmas.Option.{slice_get_past}
-use Rattle.mls_wire.specs.Reading.{◌>>=◌, rest_of, length_at, opaque_at}
+use Rattle.mls_wire.specs.Reading.{◌>>=◌, rest_of, length_at, opaque, opaque_at}
+use Rattle.mls_wire.specs.Combine.{vector}
+use Rattle.mls_wire.specs.Faults.{RefusesContent}
+use Rattle.mls_wire.specs.declared.WireError.{WireError}
+use Rattle.mls_wire.specs.declared.WireError.TheVariants.{OutOfMemory, Truncated, Trailing, BadLength, NotMinimal, TooLong}
 use Rattle.mls_wire.specs.Format.{Format, IsBytes}
 use Rattle.mls_wire.specs.Laws.{ok_is}
 use Rattle.mls_wire.specs.CombineLaws.{good, items_take}
 use Rattle.mls_wire.specs.CombineReads.{items_at}
 use Rattle.mls_leaf.specs.declared.error.LeafError.{LeafError}
-use Rattle.mls_leaf.specs.Faults.{items_in, number_of}
+use Rattle.mls_leaf.specs.declared.error.LeafError.TheVariants.{Wire}
+use Rattle.mls_leaf.specs.Faults.{Refuses, items_in}
 use Rattle.mls_leaf.proofs.Loops.{GoesOn, begins, goes_on, is_done, past_err}
 use Rattle.mls_leaf.proofs.RunLoops.{with_front, is_shorter}
 use Rattle.mls_leaf.proofs.WholeLaws.{past_ok}
@@ -179,3 +184,26 @@ missing_past bytes i j rest f are is e le =
 pub lent_if_ok : (o : Option HpkeCiphertext) (r : Result CiphertextRef LeafError) → MatchResult r (λ x. o ≡ Some (ciphertext_lent x)) (λ _. o ≡ None) → option_map ciphertext_lent (result_ok r) ≡ o
 lent_if_ok o (Ok x) h = sym h
 lent_if_ok o (Err e) h = sym h
+
+-- ---- writing
+
+module _ (bytes : List ℕ) (xs : List HpkeCiphertext) (content : List ℕ) (are : AreSpelled bytes) (seen : ciphertexts_in bytes ≡ xs) (same : content ≡ bytes) where
+  content_is : content ≡ flat_map hpke_ciphertext.spell xs
+  content_is = same ∙ are.spelled ∙ ap (λ (ys : List HpkeCiphertext). flat_map hpke_ciphertext.spell ys) seen
+
+  pub spelled_added : (old new : List ℕ) → (length content < 2 ^ 30) × (new ≡ old ++ opaque content) → (vector hpke_ciphertext hpke_ciphertext_nonempty).Fits xs × (new ≡ old ++ opaque (flat_map hpke_ciphertext.spell xs))
+  spelled_added old new h =
+      ((subst (λ (ys : List HpkeCiphertext). AllByRecursion hpke_ciphertext.Fits ys) seen are.fit, subst (λ (l : List ℕ). length l < 2 ^ 30) content_is h.0), h.1 ∙ ap (λ (l : List ℕ). old ++ opaque l) content_is)
+
+  too_long : 2 ^ 30 ≤ length content → (vector hpke_ciphertext hpke_ciphertext_nonempty).Fits xs → ⊥
+  too_long ge fits =
+      let short : length (flat_map hpke_ciphertext.spell xs) < 2 ^ 30 = fits.1 in
+      omega (arith, ap length content_is)
+
+  pub spelled_refused : (e : WireError) → RefusesContent content e → Refuses ((vector hpke_ciphertext hpke_ciphertext_nonempty).Fits xs) (Wire e)
+  spelled_refused OutOfMemory h = tt
+  spelled_refused Truncated h = h
+  spelled_refused Trailing h = h
+  spelled_refused BadLength h = h
+  spelled_refused NotMinimal h = h
+  spelled_refused TooLong h = too_long h
