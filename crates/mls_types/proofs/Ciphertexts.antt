@@ -1,17 +1,16 @@
 -- Ciphertexts one after the other, as the loops go that count them and seek one.
-use Rattle.std.proofs.Common.{◌≡◌, ℕ, suc, zero, ◌+◌, ◌^◌, ◌<◌, ◌≤◌, List, [], ◌∷◌, ◌++◌, length, drop, get_or, Option, Some, None, Result, Ok, Err, refl, sym, ap, subst, ◌∙◌, arith, length-append, length-drop}
+use Rattle.std.proofs.Common.{◌≡◌, ℕ, suc, zero, ◌+◌, ◌^◌, ◌<◌, ◌≤◌, List, [], ◌∷◌, ◌++◌, length, drop, Option, Some, None, Result, Ok, Err, refl, sym, ap, subst, ◌∙◌, arith, length-append, length-drop}
 use Rattle.std.specs.List.{flat_map, AllByRecursion, slice_get}
 use Rattle.std.specs.Option.{option_map}
 use Rattle.std.specs.Prelude.{MatchResult}
 use Rattle.std.specs.Result.{result_ok}
-use Rattle.std.proofs.lemmas.List.{drop_all}
 use Rattle.std.proofs.lemmas.Option.{slice_get_past}
 use Rattle.mls_wire.specs.Reading.{◌>>=◌, rest_of, length_at, opaque, opaque_at}
 use Rattle.mls_wire.specs.Combine.{vector}
 use Rattle.mls_wire.specs.Faults.{RefusesContent}
 use Rattle.mls_wire.specs.declared.WireError.{WireError}
 use Rattle.mls_wire.specs.declared.WireError.TheVariants.{OutOfMemory, Truncated, Trailing, BadLength, NotMinimal, TooLong}
-use Rattle.mls_wire.specs.Format.{Format, IsBytes}
+use Rattle.mls_wire.specs.Format.{IsBytes}
 use Rattle.mls_wire.specs.Laws.{ok_is}
 use Rattle.mls_wire.specs.CombineLaws.{good, items_take}
 use Rattle.mls_wire.specs.CombineReads.{items_at}
@@ -98,9 +97,12 @@ counting_stops bytes count rest f some e c =
 
 -- ---- seeking
 
+abbrev refused : ℕ → Result (HpkeCiphertext × List ℕ) ℕ
+refused f = Err f
+
 nothing_there : (x : HpkeCiphertext) (left : List ℕ) → hpke_ciphertext.read [] ≡ Ok (x, left) → ⊥
 unfolding hpke_ciphertext opaque_at length_at
-nothing_there x left e = cc
+nothing_there x left e = let no : refused 2 ≡ good x left = e in cc
 
 -- what is left are the spellings from some number on
 abbrev pub IsFrom : List ℕ → ℕ → List ℕ → Type 0

@@ -55,6 +55,7 @@ impl<'a> CiphertextRef<'a> {
 fn count_ciphertexts(bytes: &[u8]) -> Result<usize, LeafError>
     ensures { CountsCiphertexts bytes.now result }
 {
+    let _size = bytes.len();
     let mut reader = Reader::new(bytes);
     let mut count = 0;
     while !reader.is_empty() {
@@ -141,8 +142,9 @@ impl Clone for SpelledCiphertexts {
     ghost is_clone = { λ s t. t ≡ s };
 
     fn clone(&self) -> Result<SpelledCiphertexts, AllocError> {
+        let bytes = Vec::from_slice(*self.bytes.allocator(), &self.bytes)?;
         Ok(SpelledCiphertexts {
-            bytes: Vec::from_slice(*self.bytes.allocator(), &self.bytes)?,
+            bytes,
             count: self.count,
         })
     }
