@@ -64,10 +64,7 @@ fn has_counts(alloc: Global, added: &[u32], lower: usize, upper: usize, seals: u
 
 /// What a ciphertext opens to by the key of 32 such bytes.
 fn decrypt(alloc: Global, byte: u8, sealed: CiphertextRef<'_>) -> Option<Vec<u8>> {
-    let CiphertextRef {
-        kem_output: kem,
-        ciphertext: ct,
-    } = sealed;
+    let (kem, ct) = (sealed.kem_output, sealed.ciphertext);
     decrypt_with_label::<Glass>(alloc, &[byte; 32], "UpdatePathNode", b"context", kem, ct).ok()?
 }
 
