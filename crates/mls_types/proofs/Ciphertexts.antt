@@ -1,10 +1,12 @@
 -- Ciphertexts one after the other, as the loops go that count them and seek one.
 use Rattle.std.proofs.Common.{◌≡◌, ℕ, suc, zero, ◌+◌, ◌^◌, ◌<◌, ◌≤◌, List, [], ◌∷◌, ◌++◌, length, drop, Option, Some, None, Result, Ok, Err, refl, sym, ap, subst, ◌∙◌, arith, length-append, length-drop}
 use Rattle.std.specs.List.{flat_map, AllByRecursion, slice_get}
-use Rattle.std.specs.Option.{option_map}
+use Rattle.std.specs.Option.{option_copied, option_map}
+use Rattle.std.specs.Borrow.{Bor}
+use Rattle.std.specs.Slice.{IsItemAt}
 use Rattle.std.specs.Prelude.{MatchResult}
 use Rattle.std.specs.Result.{result_ok}
-use Rattle.std.proofs.lemmas.Option.{slice_get_past}
+use Rattle.std.proofs.lemmas.Option.{slice_get_past, slice_get-get_or}
 use Rattle.mls_wire.specs.Reading.{◌>>=◌, rest_of, length_at, opaque, opaque_at}
 use Rattle.mls_wire.specs.Combine.{vector}
 use Rattle.mls_wire.specs.Faults.{RefusesContent}
@@ -28,7 +30,7 @@ use Rattle.mls_types.specs.Ciphertexts.{AreSpelled, SpellSoMany, ciphertext_lent
 abbrev done_all : List HpkeCiphertext → Result (List HpkeCiphertext) ℕ
 done_all xs = Ok xs
 
-abbrev some_of : HpkeCiphertext → Option HpkeCiphertext
+abbrev pub some_of : HpkeCiphertext → Option HpkeCiphertext
 some_of x = Some x
 
 -- ---- counting
@@ -209,3 +211,10 @@ module _ (bytes : List ℕ) (xs : List HpkeCiphertext) (content : List ℕ) (are
   spelled_refused BadLength h = h
   spelled_refused NotMinimal h = h
   spelled_refused TooLong h = too_long h
+
+-- ---- lending an item
+
+-- what is lent of a list
+pub copied_is : (r : Option (Bor HpkeCiphertext)) (i : ℕ) (xs : List HpkeCiphertext) → IsItemAt xs i r → option_copied r ≡ slice_get xs i
+copied_is None i xs h = sym (slice_get_past xs i h.3)
+copied_is (Some x) i xs h = ap Some h.1 ∙ sym (slice_get-get_or xs i x.now h.3.0)

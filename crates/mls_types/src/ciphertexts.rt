@@ -150,6 +150,16 @@ impl Clone for SpelledCiphertexts {
     }
 }
 
+/// The ciphertext with this number among these.
+fn lend_item(items: &[HpkeCiphertext], number: usize) -> Option<CiphertextRef<'_>>
+    ensures { option_map ciphertext_lent result ≡ slice_get items.now number }
+{
+    match items.get(number) {
+        Some(sealed) => Some(CiphertextRef::of(sealed)),
+        None => None,
+    }
+}
+
 /// Ciphertexts that were read, or that were made.
 #[derive(Debug, Drop)]
 enum Held {
@@ -201,10 +211,7 @@ impl Ciphertexts {
     {
         match &self.held {
             Held::Read(spelled) => spelled.get(number),
-            Held::Made(items) => match items.as_slice().get(number) {
-                Some(sealed) => Some(CiphertextRef::of(sealed)),
-                None => None,
-            },
+            Held::Made(items) => lend_item(items.as_slice(), number),
         }
     }
 }
