@@ -11,7 +11,7 @@ loop-init c = rw c.new-reader.ensures (from_first c.args.bytes.now c.requires)
 pub returns-in_err-check : goal.returns-in_err-check
 returns-in_err-check c =
     let p = err_from_is_err_and c.from_residual.result c.from_residual.ensures.1 in
-    rw (p.1, p.2) (missing_past c.args.bytes.now c.loop.counter c.args.number c.loop.reader (number_of c.in_err-check.field-0.0) c.requires c.loop.invariant c.in_err-check.ensures (omega arith))
+    rw p.1 (missing_past c.args.bytes.now c.loop.counter c.args.number c.loop.reader (number_of c.in_err-check.field-0.0) c.requires c.loop.invariant c.in_err-check.ensures (omega arith))
 
 pub loop-preserved : goal.loop-preserved
 loop-preserved c = from_next c.args.bytes.now c.loop.counter c.loop.reader c.check.new.reader c.requires c.loop.invariant c.in_ok-check.ensures
@@ -19,7 +19,7 @@ loop-preserved c = from_next c.args.bytes.now c.loop.counter c.loop.reader c.che
 pub returns-in_err-sealed : goal.returns-in_err-sealed
 returns-in_err-sealed c =
     let p = err_from_is_err_and c.from_residual-in_err-sealed.result c.from_residual-in_err-sealed.ensures.1 in
-    rw (p.1, p.2) (missing_from c.args.bytes.now c.loop.counter c.args.number c.loop.reader (number_of c.in_err-sealed.field-0.0) c.requires c.loop.invariant c.in_err-sealed.ensures (omega arith))
+    rw p.1 (missing_from c.args.bytes.now c.loop.counter c.args.number c.loop.reader (number_of c.in_err-sealed.field-0.0) c.requires c.loop.invariant c.in_err-sealed.ensures (omega arith))
 
 pub returns : goal.returns
 returns c =
