@@ -1,4 +1,4 @@
-pub mod Ciphertexts
+pub mod CiphertextLaws
 pub mod SignedLaws
 pub mod SignedParts
 pub mod GroupInfoLaws

@@ -2,7 +2,7 @@ use Rattle.std.proofs.Common.{◌≡◌, ℕ, arith, subst}
 use Rattle.std.proofs.lemmas.Result.{err_from_is_err_and}
 use Rattle.mls_leaf.specs.Faults.{number_of}
 use Rattle.mls_types.specs.Ciphertexts.{ciphertext_lent}
-use Rattle.mls_types.proofs.Ciphertexts.{IsFrom, from_first, from_next, found_from, missing_from, missing_past}
+use Rattle.mls_types.proofs.CiphertextLaws.{IsFrom, from_first, from_next, found_from, missing_from, missing_past}
 use Rattle.mls_types.proofs.ciphertexts.ciphertext_at.Goals as goal
 
 pub loop-init : goal.loop-init

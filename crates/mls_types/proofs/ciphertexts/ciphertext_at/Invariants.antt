@@ -1,4 +1,4 @@
-use Rattle.mls_types.proofs.Ciphertexts.{IsFrom}
+use Rattle.mls_types.proofs.CiphertextLaws.{IsFrom}
 use Rattle.mls_types.proofs.ciphertexts.ciphertext_at.Given as goal
 
 abbrev pub invariant-loop : goal.invariant-loop

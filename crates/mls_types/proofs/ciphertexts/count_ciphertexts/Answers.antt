@@ -2,7 +2,7 @@ use Rattle.std.proofs.Common.{◌≡◌, ◌<◌, [], length, arith, rules}
 use Rattle.std.proofs.lemmas.Result.{err_from_is_err_and}
 use Rattle.mls_leaf.specs.Faults.{number_of}
 use Rattle.mls_leaf.proofs.Loops.{some_left}
-use Rattle.mls_types.proofs.Ciphertexts.{counted_none, counted_more, counted_all, counting_stops, passed_shorter}
+use Rattle.mls_types.proofs.CiphertextLaws.{counted_none, counted_more, counted_all, counting_stops, passed_shorter}
 use Rattle.mls_types.proofs.ciphertexts.count_ciphertexts.Goals as goal
 
 pub loop-reader-init : goal.loop-reader-init

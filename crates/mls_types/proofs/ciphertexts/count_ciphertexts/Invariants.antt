@@ -1,5 +1,5 @@
 use Rattle.std.proofs.Common.{length}
-use Rattle.mls_types.proofs.Ciphertexts.{Counted}
+use Rattle.mls_types.proofs.CiphertextLaws.{Counted}
 use Rattle.mls_types.proofs.ciphertexts.count_ciphertexts.Given as goal
 
 abbrev pub invariant-loop-reader : goal.invariant-loop-reader

@@ -1,7 +1,7 @@
 use Rattle.std.proofs.Common.{Bor, Option, sym, ◌∙◌, ap}
 use Rattle.mls_types.specs.declared.update_path.HpkeCiphertext.{HpkeCiphertext}
 use Rattle.std.specs.Option.{option_copied}
-use Rattle.mls_types.proofs.Ciphertexts.{copied_is, some_of}
+use Rattle.mls_types.proofs.CiphertextLaws.{copied_is, some_of}
 use Rattle.mls_types.proofs.ciphertexts.lend_item.Goals as goal
 
 pub returns-in-Some : goal.returns-in-Some

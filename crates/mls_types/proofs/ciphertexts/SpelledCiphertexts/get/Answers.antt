@@ -3,7 +3,7 @@ use Rattle.std.specs.List.{slice_get}
 use Rattle.std.specs.Option.{option_map}
 use Rattle.mls_types.specs.declared.update_path.HpkeCiphertext.{HpkeCiphertext}
 use Rattle.mls_types.specs.Ciphertexts.{ciphertext_lent, ciphertexts_in}
-use Rattle.mls_types.proofs.Ciphertexts.{lent_if_ok}
+use Rattle.mls_types.proofs.CiphertextLaws.{lent_if_ok}
 use Rattle.mls_types.proofs.ciphertexts.SpelledCiphertexts.get.Goals as goal
 
 pub ciphertext_at-requires : goal.ciphertext_at-requires

@@ -1,5 +1,5 @@
 use Rattle.std.proofs.lemmas.Result.{err_from_is_err_and}
-use Rattle.mls_types.proofs.Ciphertexts.{spelled_added, spelled_refused}
+use Rattle.mls_types.proofs.CiphertextLaws.{spelled_added, spelled_refused}
 use Rattle.mls_types.proofs.ciphertexts.SpelledCiphertexts.write.Goals as goal
 
 pub returns-in_err-opaque : goal.returns-in_err-opaque
