@@ -16,14 +16,14 @@ loop-node-preserved-then-is_leaf_among g c = record {
   few = omega (arith, c.loop-node.invariant.few);
 }
 
-pub returns-in_default : goal.returns-in_default
-returns-in_default g c =
+pub returns-in_default-get : goal.returns-in_default-get
+returns-in_default-get g c =
     λ t e _.
     same_missing g.S.Suite.crypto c.args.context.now c.args.height c.args.first c.args.self.now c.args.added.now c.args.nodes.now c.args.ciphertexts.now c.loop-node.node-index (drop c.loop-node.number c.args.ciphertexts.now) c.loop-node.invariant.same c.loop-node-test.true
-    (sym c.is_leaf_among.ensures ∙ c.if-is_leaf_among.false) (none_from c.args.ciphertexts.now c.loop-node.number (lent_none c.get.result c.args.ciphertexts.now c.loop-node.number c.get.ensures c.in_default.is)) t e
+    (sym c.is_leaf_among.ensures ∙ c.if-is_leaf_among.false) (none_from c.args.ciphertexts.now c.loop-node.number (lent_none c.get.result c.args.ciphertexts.now c.loop-node.number c.get.ensures c.in_default-get.is)) t e
 
-pub returns-in-Some-get : goal.returns-in-Some-get
-returns-in-Some-get g c =
+pub returns-in-Some : goal.returns-in-Some
+returns-in-Some g c =
     λ t e.
     answers_by (λ s. s) number_of _ _ _
     (sym (same_held g.S.Suite.crypto c.args.context.now c.args.height c.args.first c.args.self.now c.args.added.now c.args.nodes.now c.args.ciphertexts.now c.loop-node.node-index (drop c.loop-node.number c.args.ciphertexts.now) c.loop-node.invariant.same c.loop-node-test.true
