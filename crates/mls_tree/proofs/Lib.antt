@@ -1,4 +1,5 @@
 pub mod BesideLaws
+pub mod BlankLaws
 pub mod Cells
 pub mod ClientLaws
 pub mod FitLaws

@@ -1,21 +1,34 @@
 -- A removal: where it halves no tree, and the bounds after it.
-use Rattle.std.proofs.Common.{◌≡◌, ℕ, ◌+◌, ◌*◌, ◌^◌, ◌<◌, ◌≤◌, ◌==◌, ltb, true, List, Option, None, is_some, IsSome, refl, sym, ◌∙◌, ap, subst, arith, inl, inr, ne_eqb}
+use Rattle.std.proofs.Common.{◌≡◌, ℕ, zero, suc, ◌+◌, ◌*◌, ◌^◌, ◌<◌, ◌≤◌, ◌==◌, ltb, true, List, Option, None, is_some, IsSome, refl, sym, ◌∙◌, ap, subst, arith, inl, inr, ne_eqb}
 use Rattle.std.specs.Bool.{OnTrue}
 use Rattle.std.proofs.Math.Pow.{pow_mono}
-use Rattle.std.proofs.lemmas.Bool.{OnTrue_from, ltb-true, cases_lt, cond_both, cond-false, true≢false}
+use Rattle.std.proofs.lemmas.Bool.{OnTrue_from, ltb-true, cases_lt, cond_both, cond-true, cond-false, true≢false, and_parts}
 use Rattle.mls_leaf.specs.declared.node.Node.{Node}
 use Rattle.mls_treemath.specs.Limits.{max_height}
-use Rattle.mls_tree_model.specs.Term.{Term, width, leaf_of, leaf_at, is_perfect}
+use Rattle.mls_tree_model.specs.Term.{Term, Leaf, Branch, width, leaf_of, leaf_at, has_leaf, is_perfect}
 use Rattle.mls_tree_model.specs.Edits.{put, trim, remove}
 use Rattle.mls_tree_model.specs.Arrays.{term_of}
 use Rattle.mls_tree_model.proofs.ArrayLaws.{width-term_of, perfect-term_of}
-use Rattle.mls_tree_model.proofs.Equations.{leaf_of_in, leaf_of_out, remove_is}
+use Rattle.mls_tree_model.proofs.Equations.{leaf_of_in, leaf_of_out, leaf_at_right, remove_is}
+use Rattle.mls_tree_model.proofs.MemberLaws.{leaf_taken}
 use Rattle.mls_tree_model.proofs.PlaceLaws.{leaf_at-put}
-use Rattle.mls_tree_model.proofs.ShapeLaws.{width-put, perfect-put}
+use Rattle.mls_tree_model.proofs.ShapeLaws.{width-put, width-perfect, perfect-put}
 use Rattle.mls_tree_array.specs.EndOfMembers.{end_of_members}
 use Rattle.mls_tree_array.proofs.EndLaws.{last_taken, has_some, blank_behind, end_before, end-within}
 use Rattle.mls_tree_array.specs.StandingLaws.{StandsFor}
 use Rattle.mls_tree.specs.Bounds.{Bounds, IsLastBeside}
+
+-- a tree whose right half has a member is not halved
+not_halved : (h : ℕ) (t : Term) (k : ℕ) → is_perfect h t ≡ true → IsSome (leaf_at 0 t k) → width t < 2 * suc k → trim t ≡ t
+unfolding trim is_perfect width
+not_halved h (Leaf v) k shape some wide = refl
+not_halved zero (Branch c l r) k shape some wide = absurd (true≢false (sym shape))
+not_halved (suc h) (Branch c l r) k shape some wide =
+    let sides = and_parts (is_perfect h l) (is_perfect h r) shape in
+    let left = width-perfect h l sides.0 in
+    let right = width-perfect h r sides.1 in
+    let past : 0 + width l ≤ k = omega arith in
+    cond-true _ _ _ (leaf_taken (0 + width l) r k (sym (ap is_some (leaf_at_right 0 c l r k past)) ∙ some))
 
 -- leaf k stays where another one is blanked
 stays_at : (t : Term) (i k : ℕ) → i < width t → k < width t → i < k → IsSome (leaf_at 0 t k) → IsSome (leaf_at 0 (put 0 t i None) k)

@@ -1,5 +1,5 @@
 -- The numbers of a way, as they are written.
-use Rattle.std.proofs.Common.{◌≡◌, ℕ, suc, ◌+◌, ◌-◌, ◌*◌, ◌^◌, ◌%◌, ◌<◌, ◌≤◌, List, [], ◌∷◌, ◌++◌, length, set, sym, ◌∙◌, ap, arith, append-nil, inl, inr}
+use Rattle.std.proofs.Common.{◌≡◌, ℕ, suc, ◌+◌, ◌-◌, ◌*◌, ◌^◌, ◌%◌, ◌<◌, ◌≤◌, List, [], ◌∷◌, ◌++◌, length, set, refl, sym, ◌∙◌, ap, arith, append-nil, inl, inr}
 use Rattle.std.proofs.Math.Nat.{pow-suc, mod-eq_of_lt}
 use Rattle.std.proofs.lemmas.Nat.{pow_pos}
 use Rattle.std.proofs.lemmas.Bool.{cases_lt}
@@ -9,6 +9,11 @@ use Rattle.mls_treemath.specs.Paths.{nodes_in}
 use Rattle.mls_tree_model.proofs.ArrayLaws.{nodes_in-leaves}
 use Rattle.mls_tree.specs.Way.{numbers_from}
 use Rattle.mls_tree.proofs.WayLaws.{numbers_leaf, numbers_left, numbers_right}
+
+one_set : (xs : List ℕ) (n : ℕ) → length xs ≡ 1 → set xs 0 n ≡ n ∷ []
+one_set [] n e = absurd (omega arith)
+one_set (x ∷ []) n e = refl
+one_set (x ∷ y ∷ xs) n e = absurd (omega arith)
 
 pub leaf_written : (h b i : ℕ) (xs : List ℕ) → h ≡ 0 → length xs ≡ suc h → set xs 0 (2 * b) ≡ numbers_from h b i
 leaf_written h b i xs low long =

@@ -104,6 +104,11 @@ in_order-term_of (suc h) xs all alternating =
     ∙ ap (λ ys. l ++ (c ∷ ys)) (in_order-term_of h r parts.right_length parts.right)
     ∙ parts.whole
 
+-- a list of as many nodes as a tree has, each in its place, stands for the tree
+pub Stands-from_alternating : (h : ℕ) (xs : List (Option Node)) → length xs ≡ nodes_in h → alternates true xs ≡ true → Stands h xs
+Stands-from_alternating h xs all alternating =
+    record { size = all; order = in_order-term_of h xs all alternating }
+
 -- ---- padded lists
 
 -- the least tree for some nodes has room for them

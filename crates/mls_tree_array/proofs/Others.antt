@@ -1,17 +1,18 @@
 -- The one node of a resolution that a list of leaves doesn't have.
 use Rattle.std.proofs.Common.{◌≡◌, ℕ, ◌+◌, ◌-◌, ◌*◌, ◌/◌, ◌%◌, ◌<◌, ◌≤◌, ◌==◌, nat_lt, Bool, true, false, not, ◌&&◌, ◌||◌, List, [], ◌∷◌, Option, Some, None, refl, sym, ◌∙◌, ap, inl, inr, arith, eqb-true, eq-eqb, lt-ltb, le-ltb, ne_eqb}
 use Rattle.std.specs.Prelude.{nat_le, nat_eq}
-use Rattle.std.specs.List.{list_all, find}
+use Rattle.std.specs.Cmp.{both_ways}
+use Rattle.std.specs.List.{list_all, list_any, find}
 use Rattle.std.specs.List.Sorted.{IsPermutation}
 use Rattle.std.proofs.lemmas.List.Sorted.{list_any-IsPermutation}
-use Rattle.std.proofs.lemmas.Bool.{true≢false, cases_Bool, and_from, or_cases, or_left, or_right, le-leb, lt-leb, and_right, false_from_ne_true}
+use Rattle.std.proofs.lemmas.Bool.{true≢false, cases_Bool, and_parts, and_from, or_cases, or_left, or_right, le-leb, lt-leb, and_right, not-true, false_from_ne_true}
 use Rattle.mls_leaf.specs.Parent.{Parent}
 use Rattle.mls_tree_model.specs.Sets.{has, within, leaf_numbers, is_same_set}
 use Rattle.mls_tree_model.specs.Term.{Term, width}
 use Rattle.mls_tree_model.specs.Resolution.{resolution}
 use Rattle.mls_tree_model.specs.Hashes.{hash_at, is_some_bytes, is_witness, has_witness, parent_hash}
-use Rattle.mls_tree_model.proofs.SetLaws.{eqb_refl, has-filter, of_leaf_numbers, set_at, has-any}
-use Rattle.mls_tree_array.specs.Witnesses.{numbers_in, others, only_outside, candidate}
+use Rattle.mls_tree_model.proofs.SetLaws.{eqb_refl, any_at, any_from, has-filter, has-leaf_numbers, of_leaf_numbers, set_at, has-any}
+use Rattle.mls_tree_array.specs.Witnesses.{numbers_in, others, first_outside, keep_if, only_outside, candidate}
 
 -- ---- lists as sets
 
@@ -32,6 +33,10 @@ and_yes false b e = refl
 pub odd_off : (b e d : ℕ) (us : List ℕ) → d % 2 ≡ 1 → has (numbers_in b e us) d ≡ false
 odd_off b e d us odd =
     false_from_ne_true _ (λ h. let g = of_leaf_numbers (within b (e - b) us) d h in let twice : d ≡ 2 * g.0 = g.1 in absurd (omega arith))
+
+in_range : (b e d u : ℕ) (us : List ℕ) → d ≡ 2 * u → has (numbers_in b e us) d ≡ (has us u && (nat_le b u && nat_lt u (b + (e - b))))
+in_range b e d u us is =
+    ap (has (numbers_in b e us)) is ∙ has-leaf_numbers (within b (e - b) us) u ∙ has-filter (λ x. nat_le b x && nat_lt x (b + (e - b))) us u
 
 pub low_off : (b e d : ℕ) (us : List ℕ) → d % 2 < 1 → d / 2 < b → has (numbers_in b e us) d ≡ false
 low_off b e d us even low =
@@ -154,6 +159,28 @@ one ls xs d x same there out =
       | inr k ↦
           absurd (true≢false (sym (
           set_at ls (others x xs) same d ∙ has-filter (λ y. not (y == x)) xs d ∙ and_from _ _ there (ap not k)) ∙ out))
+    ]
+
+tied_at : (ls xs : List ℕ) (f : ℕ → Bool) (o : Option ℕ) → first_outside ls xs ≡ o → list_any (λ d. f d && is_same_set ls (others d xs)) xs ≡ given f (keep_if (λ d. is_same_set ls (others d xs)) o)
+tied_at ls xs f None e =
+    false_from_ne_true _ (λ h.
+    let g = any_at (λ d. f d && is_same_set ls (others d xs)) xs h in
+    let p = and_parts (f g.0) _ g.2 in
+    let out : has ls g.0 ≡ false = off ls xs g.0 p.1 in
+    absurd (true≢false (sym (ap not out) ∙ find_none (λ x. not (has ls x)) xs g.0 e g.1)))
+tied_at ls xs f (Some d) e =
+    let s = find_some (λ x. not (has ls x)) xs d e in
+    let out : has ls d ≡ false = not-true (has ls d) s.1 in
+    elim (cases_Bool (is_same_set ls (others d xs))) [
+      | inl t ↦
+          rw t (both_ways _ _
+          (λ h. let g = any_at (λ d. f d && is_same_set ls (others d xs)) xs h in let p = and_parts (f g.0) _ g.2 in ap f (one ls xs d g.0 p.1 s.0 out) ∙ p.0)
+          (λ h. any_from (λ d. f d && is_same_set ls (others d xs)) xs d s.0 (and_from (f d) _ h t)))
+      | inr t ↦
+          rw t (false_from_ne_true _ (λ h.
+          let g = any_at (λ d. f d && is_same_set ls (others d xs)) xs h in
+          let p = and_parts (f g.0) _ g.2 in
+          absurd (true≢false (sym (ap (λ x. is_same_set ls (others x xs)) (one ls xs d g.0 p.1 s.0 out) ∙ p.1) ∙ t))))
     ]
 
 pub witness_is : (p : Parent) (b : ℕ) (c : Term) (m : ℕ) (s : Term) → has_witness p b c m s ≡ given (λ d. is_some_bytes (hash_at b c d) (parent_hash p m s)) (candidate p b c)

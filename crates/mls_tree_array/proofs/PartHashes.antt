@@ -9,10 +9,10 @@ use Rattle.mls_treemath.proofs.Sizes.{nodes_in-suc, nodes_in_pos}
 use Rattle.mls_tree_model.specs.Term.{Term, Leaf, Branch, width, size, is_perfect}
 use Rattle.mls_tree_model.specs.Inputs.{leaf_hash, branch_hash}
 use Rattle.mls_tree_model.specs.Hashes.{tree_hash}
-use Rattle.mls_tree_model.specs.Arrays.{leaf_in, parent_in}
+use Rattle.mls_tree_model.specs.Arrays.{leaf_in, parent_in, term_of}
 use Rattle.mls_tree_model.proofs.Equations.{size_branch, tree_hash_leaf, tree_hash_branch}
 use Rattle.mls_tree_model.proofs.ShapeLaws.{size-width}
-use Rattle.mls_tree_model.proofs.ArrayLaws.{nodes_in-leaves, size-perfect, term_of-zero, perfect-term_of, size-term_of, width-term_of}
+use Rattle.mls_tree_model.proofs.ArrayLaws.{nodes_in-leaves, size-perfect, term_of-zero, term_of-suc, perfect-term_of, size-term_of, width-term_of}
 use Rattle.mls_tree_hash.specs.Counter.{counted}
 use Rattle.mls_tree_array.specs.KeptHashes.{hashes_of, Keeps, cold_places}
 use Rattle.mls_tree_array.specs.Spans.{part, splice, term_at, AreHashesAt}
@@ -31,6 +31,13 @@ leaf_at_place b xs =
     (get_or-take (nodes_in 0) (drop (2 * b) xs) 0 None (nodes_in_pos 0)
     ∙ get_or-drop (2 * b) xs 0 None
     ∙ ap (λ j. get_or xs j None) own)
+
+branch_at_place : (k b : ℕ) (xs : List (Option Node)) → 2 * b + nodes_in (suc k) ≤ length xs → term_at (suc k) b xs ≡ Branch (parent_in (get_or xs (2 * b + nodes_in k) None)) (term_at k b xs) (term_at k (b + 2 ^ k) xs)
+branch_at_place k b xs within =
+    term_of-suc k (part (suc k) b xs)
+    ∙ ap (λ c. Branch (parent_in c) (term_of k (take (nodes_in k) (part (suc k) b xs))) (term_of k (drop (suc (nodes_in k)) (part (suc k) b xs)))) (part_root k b xs None within)
+    ∙ ap (λ ys. Branch (parent_in (get_or xs (2 * b + nodes_in k) None)) (term_of k ys) (term_of k (drop (suc (nodes_in k)) (part (suc k) b xs)))) (part_left k b xs)
+    ∙ ap (λ ys. Branch (parent_in (get_or xs (2 * b + nodes_in k) None)) (term_at k b xs) (term_of k ys)) (part_right k b xs)
 
 pub term_leaf : (h b r : ℕ) (xs : List (Option Node)) → h ≡ 0 → suc r ≡ 2 * b + 2 ^ h → term_at h b xs ≡ Leaf (leaf_in (get_or xs r None))
 term_leaf h b r xs low at =

@@ -6,9 +6,9 @@ use Rattle.std.proofs.lemmas.List.Sorted.{sum_by-IsPermutation, IsPermutation-ma
 use Rattle.std.proofs.lemmas.List.Sums.{sum_by-cons}
 use Rattle.std.specs.List.{sum_by}
 use Rattle.std.specs.List.Sorted.{IsPermutation, IsSorted}
-use Rattle.std.specs.Ordering.{nat_cmp, is_lt, ordering_reverse}
+use Rattle.std.specs.Ordering.{nat_cmp, is_lt, is_eq, ordering_reverse}
 use Rattle.std.specs.declared.cmp.Ordering.{Ordering}
-use Rattle.std.specs.declared.cmp.Ordering.TheVariants.{Less}
+use Rattle.std.specs.declared.cmp.Ordering.TheVariants.{Less, Equal, Greater}
 use Rattle.std.specs.Cmp.{both_ways}
 use Rattle.std.specs.Bool.{MatchBool, ⊤}
 use Rattle.std.specs.Cmp.Lexicographic.{pointwise, slice_cmp, nat_list_cmp_total, texts_ties, same_text}
@@ -68,6 +68,12 @@ distinct_moved xs ys moved =
 
 below : List ℕ → List ℕ → Ordering
 below x y = slice_cmp nat_cmp x y
+
+-- what isn't above and isn't the same is below
+less_of : (r s : Ordering) → s ≡ ordering_reverse r → is_lt s ≡ false → is_eq r ≡ false → r ≡ Less
+less_of Less s e not_above other = refl
+less_of Equal s e not_above other = absurd (true≢false other)
+less_of Greater s e not_above other = absurd (true≢false (sym (ap is_lt e) ∙ not_above))
 
 no_less : (r : Ordering) → r ≡ ordering_reverse r → r ≡ Less → ⊥
 no_less r e less = true≢false (sym (ap is_lt less) ∙ ap is_lt e ∙ ap (λ s. is_lt (ordering_reverse s)) less)

@@ -7,12 +7,12 @@ use Rattle.std.proofs.Math.Pow.{pow_mono}
 use Rattle.mls_leaf.specs.declared.node.Node.{Node}
 use Rattle.mls_treemath.specs.Paths.{nodes_in}
 use Rattle.mls_treemath.proofs.Sizes.{nodes_in_pos, nodes_in-suc, nodes_in-pow}
-use Rattle.mls_tree_model.specs.Term.{Term, Leaf, height}
+use Rattle.mls_tree_model.specs.Term.{Term, Leaf, Branch, width, height}
 use Rattle.mls_tree_model.specs.Arrays.{leaf_in, parent_in, term_of}
 use Rattle.mls_tree_model.proofs.ArrayLaws.{term_of-zero, term_of-suc, width-term_of, size-term_of}
 use Rattle.mls_tree_array.specs.Spans.{part, term_at}
 use Rattle.mls_tree_array.specs.Subtrees.{Subtree, end, root_place, root_number, IsOver}
-use Rattle.mls_tree_array.proofs.SpanLaws.{part_whole}
+use Rattle.mls_tree_array.proofs.SpanLaws.{part_left, part_right, part_root, part_whole}
 use Rattle.mls_tree_array.proofs.StandingLaws.{height-term_of}
 
 abbrev pub as_subtree : ℕ → Term → Subtree
@@ -80,6 +80,39 @@ module _ (h b : ℕ) (xs : List (Option Node)) (t : Subtree) (view : as_subtree 
       ∙ ap (λ d. Leaf (leaf_in d)) (read ∙ ap (λ m. get_or xs m None) (sym place) ∙ sym is)
 
 -- ---- the sides
+
+pub term_split : (k b : ℕ) (xs : List (Option Node)) → 2 * b + nodes_in (suc k) ≤ length xs → term_at (suc k) b xs ≡ Branch (parent_in (get_or xs (2 * b + nodes_in k) None)) (term_at k b xs) (term_at k (b + 2 ^ k) xs)
+term_split k b xs shape =
+    term_of-suc k (part (suc k) b xs)
+    ∙ ap (λ d. Branch (parent_in d) (term_of k (take (nodes_in k) (part (suc k) b xs))) (term_of k (drop (suc (nodes_in k)) (part (suc k) b xs)))) (part_root k b xs None shape)
+    ∙ ap (λ ys. Branch (parent_in (get_or xs (2 * b + nodes_in k) None)) (term_of k ys) (term_of k (drop (suc (nodes_in k)) (part (suc k) b xs)))) (part_left k b xs)
+    ∙ ap (λ ys. Branch (parent_in (get_or xs (2 * b + nodes_in k) None)) (term_at k b xs) (term_of k ys)) (part_right k b xs)
+
+over_of : (k b n second : ℕ) (xs : List (Option Node)) (c : Option Node) (t : Subtree) → as_subtree b (term_at (suc k) b xs) ≡ t → suc n ≡ 2 * b + 2 ^ suc k → second ≡ b + 2 ^ k → c ≡ get_or xs n None → 2 * b + nodes_in (suc k) ≤ length xs → b + 2 ^ suc k ≤ 2 ^ 31 → IsOver t (as_subtree b (term_at k b xs)) (parent_in c) (as_subtree second (term_at k second xs))
+over_of k b n second xs c t view at is_second is shape fits =
+    let first : b ≡ t.first = ap (λ s. s.first) view in
+    let term : term_at (suc k) b xs ≡ t.term = ap (λ s. s.term) view in
+    let place : n ≡ 2 * b + nodes_in k = omega (arith, nodes_in-pow k) in
+    let root : c ≡ get_or xs (2 * b + nodes_in k) None = is ∙ ap (λ m. get_or xs m None) place in
+    let parts : term_at (suc k) b xs ≡ Branch (parent_in c) (term_at k b xs) (term_at k second xs) =
+    term_split k b xs shape
+    ∙ ap (λ d. Branch (parent_in d) (term_at k b xs) (term_at k (b + 2 ^ k) xs)) (sym root)
+    ∙ ap (λ m. Branch (parent_in c) (term_at k b xs) (term_at k m xs)) (sym is_second) in
+    let wide : width (term_at (suc k) b xs) ≡ 2 ^ suc k = width-term_of (suc k) (part (suc k) b xs) in
+    let left_wide : width (term_at k b xs) ≡ 2 ^ k = width-term_of k (part k b xs) in
+    let high : height (term_at (suc k) b xs) ≡ suc k = height-term_of (suc k) (part (suc k) b xs) in
+    let left_high : height (term_at k b xs) ≡ k = height-term_of k (part k b xs) in
+    let right_high : height (term_at k second xs) ≡ k = height-term_of k (part k second xs) in
+    let low : suc k < 32 = low_height (suc k) b fits in
+    record {
+      is = sym term ∙ parts;
+      left_first = first;
+      right_first = is_second ∙ ap (λ w. b + w) (sym left_wide) ∙ ap (λ m. m + width (term_at k b xs)) first;
+      fits = rw (← term, ← first) (omega arith);
+      low = rw (← term) (omega arith);
+      left_height = rw (← term) (omega arith);
+      right_height = rw (← term) (omega arith);
+    }
 
 -- the cell c is read of a root, and the leaf `second` begins its right side
 pub is_over : (h b n second : ℕ) (xs : List (Option Node)) (c : Option Node) (t : Subtree) → 0 < h → as_subtree b (term_at h b xs) ≡ t → suc n ≡ 2 * b + 2 ^ h → second ≡ b + 2 ^ (h - 1) → c ≡ get_or xs n None → 2 * b + nodes_in h ≤ length xs → b + 2 ^ h ≤ 2 ^ 31 → IsOver t (as_subtree b (term_at (h - 1) b xs)) (parent_in c) (as_subtree second (term_at (h - 1) second xs))

@@ -39,6 +39,10 @@ module _ (h b i : ℕ) where
     unfolding IsColdOnWay
     cold_parts k = k
 
+cold_leaf : (b i : ℕ) (hs : List (Option (List ℕ))) → get_or hs (2 * b) (Some []) ≡ None → IsColdOnWay 0 b i hs
+unfolding IsColdOnWay
+cold_leaf b i hs e = e
+
 leaf_cold : (b i : ℕ) (hs : List (Option (List ℕ))) → IsColdOnWay 0 b i hs → get_or hs (2 * b) (Some []) ≡ None
 unfolding IsColdOnWay
 leaf_cold b i hs k = k

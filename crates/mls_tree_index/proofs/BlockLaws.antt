@@ -264,6 +264,10 @@ blocks_only (x ∷ []) zero v one are = are
 blocks_only (x ∷ []) (suc b) v one are = are
 blocks_only (x ∷ y ∷ bs) b v one are = absurd (omega arith)
 
+pub blocks_insert : (bs : List (List ℕ)) (b : ℕ) (v : List ℕ) → 0 < length v → AreBlocks bs → AreBlocks (insert bs (suc b) v)
+blocks_insert [] b v some are = absurd are
+blocks_insert (x ∷ bs) b v some are = all_insert (λ w. 0 < length w) bs b v some are
+
 pub blocks_remove : (bs : List (List ℕ)) (b : ℕ) → 1 < length bs → AreBlocks bs → AreBlocks (remove bs b)
 blocks_remove [] b more are = absurd are
 blocks_remove (x ∷ []) b more are = absurd (omega arith)

@@ -5,7 +5,7 @@ use Rattle.std.proofs.lemmas.Cmp.{then_total, on_total, nat_cmp_total}
 use Rattle.std.specs.Cmp.{IsTotalOrder}
 use Rattle.std.specs.Cmp.Lexicographic.{pointwise, slice_cmp, same_text}
 use Rattle.std.specs.Option.{unwrap_or}
-use Rattle.std.specs.Ordering.{nat_cmp, ordering_then, is_lt}
+use Rattle.std.specs.Ordering.{nat_cmp, ordering_then, is_lt, is_eq, is_gt}
 use Rattle.std.specs.declared.cmp.Ordering.{Ordering}
 use Rattle.std.specs.declared.cmp.Ordering.TheVariants.{Less, Equal, Greater}
 use Rattle.mls_tree_index.specs.declared.entries.Entry.{Entry}
@@ -47,11 +47,21 @@ get_rest : (k : List ℕ) (j : ℕ) → get_or (rest k) j 0 ≡ get_or k (suc j)
 get_rest [] j = refl
 get_rest (x ∷ xs) j = refl
 
+never_less : (xs : List ℕ) → slice_cmp nat_cmp xs [] ≡ Less → ⊥
+never_less [] h = true≢false (ap is_eq h)
+never_less (x ∷ xs) h = true≢false (ap is_gt h)
+
 less_first : (k l : List ℕ) → get_or k 0 0 < get_or l 0 0 → slice_cmp nat_cmp k l ≡ Less
 less_first [] [] lt = let bad : 0 < 0 = lt in absurd (omega arith)
 less_first [] (y ∷ ys) lt = refl
 less_first (x ∷ xs) [] lt = let bad : x < 0 = lt in absurd (omega arith)
 less_first (x ∷ xs) (y ∷ ys) lt = ap (λ r. ordering_then r (slice_cmp nat_cmp xs ys)) (less_cmp x y lt)
+
+less_behind : (k l : List ℕ) → get_or k 0 0 ≡ get_or l 0 0 → slice_cmp nat_cmp (rest k) (rest l) ≡ Less → slice_cmp nat_cmp k l ≡ Less
+less_behind [] [] same h = h
+less_behind [] (y ∷ ys) same h = refl
+less_behind (x ∷ xs) [] same h = absurd (never_less xs h)
+less_behind (x ∷ xs) (y ∷ ys) same h = ap (λ r. ordering_then r (slice_cmp nat_cmp xs ys)) (same_cmp x y same) ∙ h
 
 -- the first place where two lists differ tells their order, and what is missing counts as 0
 less_from : (n : ℕ) (k l : List ℕ) → ((j : ℕ) → j < n → get_or k j 0 ≡ get_or l j 0) → get_or k n 0 < get_or l n 0 → slice_cmp nat_cmp k l ≡ Less
