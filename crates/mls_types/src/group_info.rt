@@ -92,12 +92,12 @@ fn write_extensions(
         writer.opaque(&[])?;
         return Ok(());
     };
-    let mut data = Writer::new(alloc);
-    tree.write(alloc, &mut data)?;
-    let mut content = Writer::new(alloc);
-    content.u16(RATCHET_TREE_EXTENSION)?;
-    content.vector(&data)?;
-    writer.vector(&content)?;
+    let content = writer.start_vector()?;
+    writer.u16(RATCHET_TREE_EXTENSION)?;
+    let data = writer.start_vector()?;
+    tree.write(alloc, writer)?;
+    writer.end_vector(data)?;
+    writer.end_vector(content)?;
     Ok(())
 }
 
