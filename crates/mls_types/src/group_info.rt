@@ -80,7 +80,7 @@ fn check_extensions(reader: &mut Reader<'_>) -> Result<(), LeafError>
 }
 
 /// Adds the extensions of a group info.
-#[tactic(auto, using(mls_leaf::proofs::Codecs::codecs), unfolding(crate::specs::GroupInfo::group_info_extensions))]
+#[tactic(auto, using(mls_wire::proofs::Started::started, mls_leaf::proofs::Codecs::codecs), unfolding(crate::specs::GroupInfo::group_info_extensions))]
 fn write_extensions(
     ratchet_tree: &Option<RatchetTree>,
     alloc: Global,
