@@ -1,9 +1,7 @@
-use Rattle.std.proofs.Common.{◌∙◌, ◌≡◌, ℕ, ◌+◌, ◌-◌, ◌<◌, List, [], ◌∷◌, ◌++◌, take, drop, length, slice_set, slice_index, ap, sym, append_assoc, length-drop, eqb-true, arith}
-use Rattle.std.proofs.lemmas.List.{append-nil, take-append-drop, take_more, length-take-le, set_at, nil_from_length}
-use Rattle.std.specs.Global.{Vec}
+use Rattle.std.proofs.Common.{◌∙◌, ◌≡◌, ℕ, ◌+◌, ◌-◌, ◌<◌, List, [], ◌∷◌, ◌++◌, take, drop, length, slice_set, slice_index, ap, sym, append_assoc, length-drop, arith}
+use Rattle.std.proofs.lemmas.List.{take_more, length-take-le, set_at}
 use Rattle.std.specs.List.{insert_slice}
 use Rattle.mls_wire.specs.Reading.{header, opaque}
-use Rattle.mls_wire.proofs.writer.put_header.Goals.{then-not-is_empty+in_ok-insert, else-not-is_empty}
 use Rattle.mls_wire.proofs.writer.put_header.Goals as goal
 
 -- the byte at start, and bytes put behind it, give way to a header of which these are all but the first
@@ -16,10 +14,6 @@ headed bytes more start first lt =
     ∙ ap (λ (l : List ℕ). slice_set l start first) (append_assoc (before ++ kept ∷ []) more rest ∙ append_assoc before (kept ∷ []) (more ++ rest))
     ∙ set_at before kept (more ++ rest) first start (length-take-le start bytes (omega arith))
     ∙ ap (λ (n : ℕ). before ++ ((first ∷ more) ++ drop n bytes)) (omega arith)
-
--- nothing put in changes nothing
-unchanged : (bytes : List ℕ) (n : ℕ) → bytes ≡ insert_slice bytes n []
-unchanged bytes n = sym (ap (λ (l : List ℕ). l ++ drop n bytes) (append-nil (take n bytes)) ∙ take-append-drop n bytes)
 
 ended : (bytes more moved : List ℕ) (start first : ℕ) → start < length bytes → moved ≡ insert_slice bytes (start + 1) more → header (length (drop (1 + start) bytes)) ≡ first ∷ more → slice_set moved start first ≡ take start bytes ++ opaque (drop (1 + start) bytes)
 ended bytes more moved start first lt e h =
@@ -34,8 +28,7 @@ returns-clause-ok c =
     let first = c.parts-first.result.0 in
     let within : start < length bytes = omega (arith, c.requires, c.args.bytes.now.ok.0) in
     let measured : length (drop (1 + start) bytes) ≡ c.len.result - start - 1 = omega (arith, length-drop (1 + start) bytes, c.len.ensures, c.args.bytes.now.ok.0) in
-    let spelled : header (length (drop (1 + start) bytes)) ≡ first ∷ more = ap header measured ∙ sym c.in_ok-header.ensures.1 ∙ c.parts-first.ensures in
-    (omega (arith, measured, c.in_ok-header.ensures.0),
-    elim c.if-not-is_empty.branch [
-        then-not-is_empty+in_ok-insert w ↦ ended bytes more c.if-not-is_empty.bytes.items start first within (ap (λ (v : Vec ℕ). v.items) w.bytes-is ∙ w.in_ok-insert.ensures.ok) spelled
-      | else-not-is_empty w ↦ ended bytes more c.if-not-is_empty.bytes.items start first within (ap (λ (v : Vec ℕ). v.items) w.bytes-is ∙ unchanged bytes (start + 1) ∙ ap (insert_slice bytes (start + 1)) (sym (nil_from_length more (eqb-true (length more) 0 (sym c.is_empty.ensures ∙ w.if-not-is_empty.false))))) spelled ])
+    let spelled : header (length (drop (1 + start) bytes)) ≡ first ∷ more = ap header measured ∙ sym c.in_ok-header.ensures.1 ∙ c.parts-first.ensures in (
+      omega (arith, measured, c.in_ok-header.ensures.0),
+      ended bytes more c.insert.new.bytes.items start first within c.in_ok-insert.ensures.ok spelled,
+    )
