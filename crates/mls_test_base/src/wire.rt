@@ -253,7 +253,7 @@ fn ends_elsewhere(alloc: Global) -> Result<bool, WireError> {
     let mut writer = Writer::new(alloc);
     writer.u8(0x11)?;
     writer.end_vector(start)?;
-    Ok(writer.bytes() == b"\x11\x00")
+    Ok(writer.bytes() == b"\x11\x00".as_slice())
 }
 
 #[test]
