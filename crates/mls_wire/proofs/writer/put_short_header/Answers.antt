@@ -11,6 +11,7 @@ short_header n lt = rw (lt-ltb n 64 lt) refl
 ended : (bytes : List ℕ) (start len : ℕ) → start < length bytes → len ≡ length (drop (1 + start) bytes) → len < 64 → slice_set bytes start len ≡ take start bytes ++ opaque (drop (1 + start) bytes)
 ended bytes start len lt is short =
     set_split bytes start len lt
+    ∙ ap (λ (n : ℕ). take start bytes ++ (len ∷ drop n bytes)) (omega arith)
     ∙ ap (λ (h : List ℕ). take start bytes ++ (h ++ drop (1 + start) bytes)) (sym (short_header len short) ∙ ap header is)
 
 pub returns : goal.returns
