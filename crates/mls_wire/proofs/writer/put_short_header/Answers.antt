@@ -1,4 +1,4 @@
-use Rattle.std.proofs.Common.{◌∙◌, ◌≡◌, ℕ, ◌+◌, ◌<◌, List, [], ◌∷◌, ◌++◌, take, drop, length, slice_set, ap, sym, refl, length-drop, arith}
+use Rattle.std.proofs.Common.{◌∙◌, ◌≡◌, ℕ, suc, ◌+◌, ◌<◌, List, [], ◌∷◌, ◌++◌, take, drop, length, slice_set, ap, sym, refl, length-drop, arith}
 use Rattle.std.proofs.lemmas.Bool.{lt-ltb}
 use Rattle.std.proofs.lemmas.List.{set_split}
 use Rattle.mls_wire.specs.Reading.{header, opaque}
@@ -10,8 +10,9 @@ short_header n lt = rw (lt-ltb n 64 lt) refl
 
 ended : (bytes : List ℕ) (start len : ℕ) → start < length bytes → len ≡ length (drop (1 + start) bytes) → len < 64 → slice_set bytes start len ≡ take start bytes ++ opaque (drop (1 + start) bytes)
 ended bytes start len lt is short =
+    let next : suc start ≡ 1 + start = omega arith in
     set_split bytes start len lt
-    ∙ ap (λ (n : ℕ). take start bytes ++ (len ∷ drop n bytes)) (omega arith)
+    ∙ ap (λ (n : ℕ). take start bytes ++ (len ∷ drop n bytes)) next
     ∙ ap (λ (h : List ℕ). take start bytes ++ (h ++ drop (1 + start) bytes)) (sym (short_header len short) ∙ ap header is)
 
 pub returns : goal.returns
