@@ -154,7 +154,13 @@ pub(crate) fn push_node(
         ≡ characters.old.items ++ node_text on_path place (option_map lent_node node.entry)) }
 {
     match node {
-        Some(NodeRef::Leaf(leaf)) => push_leaf(alloc, characters, on_path, (place / 2) as u64, leaf),
+        Some(NodeRef::Leaf(leaf)) => push_leaf(
+            alloc,
+            characters,
+            on_path,
+            (place / 2) as u64,
+            leaf,
+        ),
         Some(NodeRef::Parent(parent)) => push_parent(alloc, characters, on_path, parent),
         None => push_blank(alloc, characters, place),
     }
