@@ -37,6 +37,8 @@ fn places_are_read_and_written(rt: HostRuntime) -> Result<(), Fail> {
     let bytes = leaf.into_slot().encode(alloc)?;
     assert_eq!(rt; bytes.len(), 27);
     assert!(rt; matches!(Slot::decode(alloc, &bytes)?.node(), Some(NodeRef::Leaf(_))));
+    let parent = Slot::decode(alloc, &[1, 2, 1, 0xaa, 0, 0])?.clone()?;
+    assert_eq!(rt; parent.encode(alloc)?.len(), 6);
     assert!(rt; !Slot::decode(alloc, &[0])?.is_taken());
     assert!(rt; matches!(Slot::decode(alloc, &[2]), Err(LeafError::BadTag)));
     Ok(())
