@@ -52,7 +52,7 @@ fn counts_in_commit(alloc: Global, commit: &Commit) -> Result<Vec<usize>> {
     };
     let mut counts = Vec::new(alloc);
     for node in path.nodes.as_slice() {
-        counts.push(node.ciphertexts.as_slice().len())?;
+        counts.push(node.ciphertexts.len())?;
     }
     Ok(counts)
 }

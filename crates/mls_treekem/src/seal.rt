@@ -12,11 +12,11 @@ ghost use Rattle.mls_treekem_model.specs.Seeds.{seal_count_of};
 use crate::places::{Place, parents_over};
 use crate::{PathSecrets, TreeKemError, seal_seed_of};
 use mls_kdf::{HmacKey, Secret};
-use mls_leaf::{Bytes, Items, Node};
+use mls_leaf::{Bytes, Node};
 use mls_suite::{Suite, encrypt_with_label};
 use mls_tree::PublicTree;
 use mls_tree_array::is_leaf_among;
-use mls_types::{HpkeCiphertext, UpdatePathNode};
+use mls_types::{Ciphertexts, HpkeCiphertext, UpdatePathNode};
 use std::alloc::Global;
 
 /// The low 32 bits of a number.
@@ -33,7 +33,7 @@ pub fn seal_count_of(nodes: &[UpdatePathNode]) -> u32
 {
     let mut count: u32 = 0;
     for node in nodes {
-        count = count.wrapping_add(low_bits(node.ciphertexts.as_slice().len()));
+        count = count.wrapping_add(low_bits(node.ciphertexts.len()));
     }
     count
 }
@@ -153,7 +153,7 @@ impl Sealer<'_, '_> {
         let key = Vec::from_slice(alloc, &pair.pk)?;
         Ok(UpdatePathNode {
             encryption_key: Bytes::from_vec(key),
-            ciphertexts: Items::from_vec(ciphertexts),
+            ciphertexts: Ciphertexts::from_vec(ciphertexts),
         })
     }
 
