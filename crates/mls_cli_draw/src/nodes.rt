@@ -1,18 +1,19 @@
 //! Nodes of a picture: their marks, and what stands behind them.
 
-ghost use Rattle.std.specs.Prelude.{◌≡◌, ◌++◌, OnOk, None, get_or, option_copied};
+ghost use Rattle.std.specs.Prelude.{◌≡◌, ◌++◌, OnOk, None, get_or, option_map};
 ghost use Rattle.std.specs.List.{flat_map, list_all, list_any};
 ghost use Rattle.hex.specs.Hex.{encode_lower};
+ghost use Rattle.mls_tree_slot.specs.Nodes.{lent_node};
 ghost use Rattle.mls_cli_draw.specs.Picture.{blank_text, gap, identity_text, is_on, is_printable, leaf_text, node_text, parent_text, spaced_numbers, star, unmerged_text};
 
 use crate::characters::{push_ascii, push_decimal};
-use mls_leaf::{LeafNode, Node, ParentNode};
-use mls_tree_slot::Slot;
+use mls_leaf::{LeafNode, ParentNode};
+use mls_tree_slot::{NodeRef, Slot};
 use std::alloc::{AllocError, Global};
 
 /// The node at a place of a list, or None where it is blank or not in the list.
-pub(crate) fn node_in(nodes: &[Slot], node: usize) -> Option<&Node>
-    ensures { option_copied result ≡ get_or nodes.now node None }
+pub(crate) fn node_in(nodes: &[Slot], node: usize) -> Option<NodeRef<'_>>
+    ensures { option_map lent_node result ≡ get_or nodes.now node None }
 {
     match nodes.get(node) {
         Some(slot) => slot.node(),
@@ -147,14 +148,20 @@ pub(crate) fn push_node(
     characters: &mut Vec<char>,
     on_path: bool,
     place: usize,
-    node: Option<&Node>,
+    node: Option<NodeRef<'_>>,
 ) -> Result<(), AllocError>
     ensures { OnOk result (characters.new.items
-        ≡ characters.old.items ++ node_text on_path place (option_copied node.entry)) }
+        ≡ characters.old.items ++ node_text on_path place (option_map lent_node node.entry)) }
 {
     match node {
-        Some(Node::Leaf(leaf)) => push_leaf(alloc, characters, on_path, (place / 2) as u64, leaf),
-        Some(Node::Parent(parent)) => push_parent(alloc, characters, on_path, parent),
+        Some(NodeRef::Leaf(leaf)) => push_leaf(
+            alloc,
+            characters,
+            on_path,
+            (place / 2) as u64,
+            leaf,
+        ),
+        Some(NodeRef::Parent(parent)) => push_parent(alloc, characters, on_path, parent),
         None => push_blank(alloc, characters, place),
     }
 }

@@ -1,6 +1,7 @@
 //! Rows of an SVG picture: a row for each node, with the lines to its children.
 
-ghost use Rattle.std.specs.Prelude.{◌≡◌, ◌++◌, IfOk, OnOk, option_copied};
+ghost use Rattle.std.specs.Prelude.{◌≡◌, ◌++◌, IfOk, OnOk, option_map};
+ghost use Rattle.mls_tree_slot.specs.Nodes.{lent_node};
 ghost use Rattle.mls_tree_model.specs.Arrays.{leaf_in, parent_in};
 ghost use Rattle.mls_cli_draw.specs.Svg.{leaf_class, leaf_front, leaf_row, opened, parent_class, parent_front, parent_row};
 
@@ -10,7 +11,7 @@ use crate::row::Row;
 use crate::shapes::{
     push_box, push_circle, push_group, push_lines, push_name, push_numbered, push_unmerged,
 };
-use mls_leaf::Node;
+use mls_tree_slot::NodeRef;
 use std::alloc::{AllocError, Global};
 
 /// The first row of a picture, by its width and its height.
@@ -44,18 +45,18 @@ fn push_leaf_front(
     characters: &mut Vec<char>,
     point: Point,
     on_path: bool,
-    node: Option<&Node>,
+    node: Option<NodeRef<'_>>,
 ) -> Result<(), AllocError>
     ensures { OnOk result (characters.new.items
         ≡ characters.old.items
-        ++ leaf_front point on_path (leaf_in (option_copied node.entry))) }
+        ++ leaf_front point on_path (leaf_in (option_map lent_node node.entry))) }
 {
     match node {
-        Some(Node::Leaf(leaf)) => {
+        Some(NodeRef::Leaf(leaf)) => {
             push_group(alloc, characters, leaf_class(on_path).as_bytes(), point)?;
             push_name(alloc, characters, leaf.credential.identity.as_slice())
         }
-        Some(Node::Parent(_)) | None => push_group(alloc, characters, b"blank leaf", point),
+        Some(NodeRef::Parent(_)) | None => push_group(alloc, characters, b"blank leaf", point),
     }
 }
 
@@ -65,10 +66,10 @@ pub(crate) fn leaf_row(
     index: u32,
     point: Point,
     on_path: bool,
-    node: Option<&Node>,
+    node: Option<NodeRef<'_>>,
 ) -> Result<Row, AllocError>
     ensures { IfOk result (λ row. row.characters.items
-        ≡ leaf_row index point on_path (leaf_in (option_copied node.entry))) }
+        ≡ leaf_row index point on_path (leaf_in (option_map lent_node node.entry))) }
 {
     let mut characters = Vec::new(alloc);
     push_leaf_front(alloc, &mut characters, point, on_path, node)?;
@@ -90,18 +91,18 @@ fn push_parent_front(
     characters: &mut Vec<char>,
     point: Point,
     on_path: bool,
-    node: Option<&Node>,
+    node: Option<NodeRef<'_>>,
 ) -> Result<(), AllocError>
     ensures { OnOk result (characters.new.items
         ≡ characters.old.items
-        ++ parent_front point on_path (parent_in (option_copied node.entry))) }
+        ++ parent_front point on_path (parent_in (option_map lent_node node.entry))) }
 {
     match node {
-        Some(Node::Parent(parent)) => {
+        Some(NodeRef::Parent(parent)) => {
             push_group(alloc, characters, parent_class(on_path).as_bytes(), point)?;
             push_unmerged(alloc, characters, parent.unmerged_leaves())
         }
-        Some(Node::Leaf(_)) | None => push_group(alloc, characters, b"blank parent", point),
+        Some(NodeRef::Leaf(_)) | None => push_group(alloc, characters, b"blank parent", point),
     }
 }
 
@@ -111,11 +112,11 @@ pub(crate) fn parent_row(
     number: u64,
     fork: Fork,
     on_path: bool,
-    node: Option<&Node>,
+    node: Option<NodeRef<'_>>,
 ) -> Result<Row, AllocError>
     ensures { IfOk result (λ row. row.characters.items
         ≡ parent_row number fork.parent fork.left fork.right on_path
-        (parent_in (option_copied node.entry))) }
+        (parent_in (option_map lent_node node.entry))) }
 {
     let mut characters = Vec::new(alloc);
     push_lines(alloc, &mut characters, fork)?;

@@ -17,10 +17,10 @@ ghost use Rattle.mls_tree_model.specs.Term.{width};
 ghost use Rattle.mls_cli_place.specs.TreePlace.{IsFirstFailing, TellsRule, leaf_is_capable, leaf_is_signed, node_is_fit, node_stands};
 
 use mls_checks::{leaf_capable, leaf_signed};
-use mls_leaf::{LeafNode, Node};
+use mls_leaf::LeafNode;
 use mls_suite::Suite;
 use mls_tree::PublicTree;
-use mls_tree_slot::Slot;
+use mls_tree_slot::{NodeRef, Slot};
 use std::alloc::{AllocError, Global};
 
 /// Whether a leaf's signature is its own, where it isn't blank.
@@ -120,8 +120,8 @@ fn is_fit_or_blank<S: Suite>(node: &Slot) -> bool
     ensures { result ≡ list_all S.crypto.key_ok (cell_keys node.now) }
 {
     match node.node() {
-        Some(Node::Leaf(leaf)) => S::key_ok(leaf.encryption_key.as_slice()),
-        Some(Node::Parent(parent)) => S::key_ok(parent.encryption_key()),
+        Some(NodeRef::Leaf(leaf)) => S::key_ok(leaf.encryption_key.as_slice()),
+        Some(NodeRef::Parent(parent)) => S::key_ok(parent.encryption_key()),
         None => true,
     }
 }
@@ -145,8 +145,8 @@ fn may_stand(even: bool, node: &Slot) -> bool
     ensures { result ≡ may_stand even node.now }
 {
     match node.node() {
-        Some(Node::Leaf(_)) => even,
-        Some(Node::Parent(_)) => !even,
+        Some(NodeRef::Leaf(_)) => even,
+        Some(NodeRef::Parent(_)) => !even,
         None => true,
     }
 }

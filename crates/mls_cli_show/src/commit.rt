@@ -89,7 +89,7 @@ impl Listed for UpdatePathNode {
     fn item_lines(&self, alloc: Global, number: u64) -> Result<Vec<Line>, AllocError> {
         let prefix = Prefix::of_item("path.", number);
         let key = self.encryption_key.clone()?;
-        let ciphertexts = self.ciphertexts.as_slice().len();
+        let ciphertexts = self.ciphertexts.len();
         Ok(vec![in alloc;
             line_with(prefix, "encryption_key", Field::Bytes(key)),
             line_with(prefix, "ciphertexts", Field::Number(ciphertexts as u64)),

@@ -12,8 +12,8 @@ use crate::extensions::extension_lines;
 use crate::numbered::{Detail, Listed, list_lines, list_lines_in_full};
 use crate::package::leaf_lines;
 use mls_cli_text::{Field, Line, Prefix, append_line, append_lines, line_of, line_with};
-use mls_leaf::{Bytes, Node, ParentNode};
-use mls_tree_slot::Slot;
+use mls_leaf::{Bytes, ParentNode};
+use mls_tree_slot::{NodeRef, Slot};
 use mls_types::{EncryptedGroupSecrets, GroupContext, GroupInfo, RatchetTree, Welcome};
 use std::alloc::{AllocError, Global};
 
@@ -159,11 +159,11 @@ impl Listed for Slot {
     fn item_lines(&self, alloc: Global, number: u64) -> Result<Vec<Line>, AllocError> {
         let prefix = Prefix::of_item("node.", number);
         match self.node() {
-            Some(Node::Leaf(leaf)) => {
+            Some(NodeRef::Leaf(leaf)) => {
                 let lines = leaf_lines(alloc, prefix, leaf.clone()?)?;
                 with_kind(alloc, prefix, "leaf", lines)
             }
-            Some(Node::Parent(parent)) => {
+            Some(NodeRef::Parent(parent)) => {
                 let lines = parent_lines(alloc, prefix, parent)?;
                 with_kind(alloc, prefix, "parent", lines)
             }

@@ -70,7 +70,7 @@ fn has_counts(nodes: &[UpdatePathNode], due: &[usize]) -> bool
     ensures { result ≡ bytes_eq (counts_in nodes.now) due.now }
 {
     let mut pairs = nodes.iter().zip(due);
-    pairs.all(|(node, count)| node.ciphertexts.as_slice().len() == *count)
+    pairs.all(|(node, count)| node.ciphertexts.len() == *count)
 }
 
 /// Refuses a path whose number of nodes is wrong, and then a number of ciphertexts that is. The committer is a member.

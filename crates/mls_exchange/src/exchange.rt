@@ -10,11 +10,11 @@ ghost use Rattle.mls_exchange.specs.Calls.{GivesBytes};
 
 use crate::ExchangeError;
 use mls_kdf::Secret;
-use mls_leaf::{Bytes, INPUT_LIMIT, LeafError, LeafNode, Node};
+use mls_leaf::{Bytes, INPUT_LIMIT, LeafError, LeafNode};
 use mls_private_message::PrivateMessageError;
 use mls_secret_tree::SecretTree;
 use mls_suite::Suite;
-use mls_tree_slot::Slot;
+use mls_tree_slot::{NodeRef, Slot};
 use mls_wire::WireError;
 use std::alloc::Global;
 use std::marker::{Model, PhantomData};
@@ -71,7 +71,7 @@ fn leaf_in(slot: &Slot) -> Option<&LeafNode>
     ensures { option_copied result ≡ leaf_in slot.now }
 {
     match slot.node() {
-        Some(Node::Leaf(leaf)) => Some(leaf),
+        Some(NodeRef::Leaf(leaf)) => Some(leaf),
         _ => None,
     }
 }

@@ -2,8 +2,9 @@
 
 use crate::stage::Stage;
 use anyhow::{Result, bail};
-use mls_leaf::{Codec, Node};
+use mls_leaf::Codec;
 use mls_tree::PublicTree;
+use mls_tree_slot::NodeRef;
 use mls_types::{Commit, MlsMessage, PublicMessage, SignedBody};
 use std::alloc::{AllocError, Global};
 
@@ -25,7 +26,7 @@ pub fn path_nodes(stage: &Stage, member: usize) -> Result<Vec<u32>> {
 
 fn lists(tree: &PublicTree, node: u32, leaf: u32) -> bool {
     match tree.node(node) {
-        Some(Node::Parent(parent)) => parent.unmerged_leaves().contains(&leaf),
+        Some(NodeRef::Parent(parent)) => parent.unmerged_leaves().contains(&leaf),
         _ => false,
     }
 }
@@ -52,7 +53,7 @@ fn counts_in_commit(alloc: Global, commit: &Commit) -> Result<Vec<usize>> {
     };
     let mut counts = Vec::new(alloc);
     for node in path.nodes.as_slice() {
-        counts.push(node.ciphertexts.as_slice().len())?;
+        counts.push(node.ciphertexts.len())?;
     }
     Ok(counts)
 }

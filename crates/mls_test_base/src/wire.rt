@@ -141,17 +141,17 @@ fn write_front(writer: &mut Writer) -> Result<(), WireError> {
 }
 
 /// Writes the vector behind them.
-fn write_vector(alloc: Global, writer: &mut Writer) -> Result<(), WireError> {
-    let mut content = Writer::new(alloc);
-    content.u16(0x1011)?;
-    writer.vector(&content)
+fn write_vector(writer: &mut Writer) -> Result<(), WireError> {
+    let start = writer.start_vector()?;
+    writer.u16(0x1011)?;
+    writer.end_vector(start)
 }
 
 /// Whether all fields are written.
 fn writes(alloc: Global, bytes: &[u8]) -> Result<bool, WireError> {
     let mut writer = Writer::new(alloc);
     write_front(&mut writer)?;
-    write_vector(alloc, &mut writer)?;
+    write_vector(&mut writer)?;
     let is_written = writer.bytes() == bytes;
     Ok(is_written && writer.into_bytes().as_slice() == bytes)
 }
@@ -188,4 +188,97 @@ fn forty_grow_or_stay(writer: &mut Writer) -> bool {
 fn refused_growths(rt: HostRuntime) {
     let mut writer = Writer::new(rt.alloc());
     assert!(rt; forty_grow_or_stay(&mut writer));
+}
+
+/// Lengths of contents about those where a header gets longer.
+const LENGTHS: &[usize] = &[0, 1, 63, 64, 65, 16383, 16384, 16385];
+
+/// Writes zeros, each by a call.
+fn write_zeros(writer: &mut Writer, count: usize) -> Result<(), WireError> {
+    for _ in 0..count {
+        writer.u8(0)?;
+    }
+    Ok(())
+}
+
+/// Writes a vector of zeros in a vector, with a byte before, between and behind.
+fn write_nested(writer: &mut Writer, count: usize) -> Result<(), WireError> {
+    writer.u8(0x11)?;
+    let outer = writer.start_vector()?;
+    writer.u8(0x22)?;
+    let inner = writer.start_vector()?;
+    write_zeros(writer, count)?;
+    writer.end_vector(inner)?;
+    writer.end_vector(outer)?;
+    writer.u8(0x33)
+}
+
+/// The same of what was written elsewhere.
+fn write_apart(alloc: Global, writer: &mut Writer, count: usize) -> Result<(), WireError> {
+    let mut inner = Writer::new(alloc);
+    write_zeros(&mut inner, count)?;
+    let mut outer = Writer::new(alloc);
+    outer.u8(0x22)?;
+    outer.opaque(inner.bytes())?;
+    writer.u8(0x11)?;
+    writer.opaque(outer.bytes())?;
+    writer.u8(0x33)
+}
+
+/// How many lengths give the same bytes in both ways, from the first on.
+fn count_nested(alloc: Global, lengths: &[usize]) -> Result<usize, WireError> {
+    for i in 0..lengths.len() {
+        let mut here = Writer::new(alloc);
+        write_nested(&mut here, lengths[i])?;
+        let mut apart = Writer::new(alloc);
+        write_apart(alloc, &mut apart, lengths[i])?;
+        if here.bytes() != apart.bytes() {
+            return Ok(i);
+        }
+    }
+    Ok(lengths.len())
+}
+
+#[test]
+fn vectors_in_place(rt: HostRuntime) -> Result<(), Fail> {
+    assert_eq!(rt; count_nested(rt.alloc(), LENGTHS)?, LENGTHS.len());
+    Ok(())
+}
+
+/// A vector that was started in a longer writer is empty here.
+fn ends_elsewhere(alloc: Global) -> Result<bool, WireError> {
+    let mut longer = Writer::new(alloc);
+    longer.u16(0x1011)?;
+    let start = longer.start_vector()?;
+    let mut writer = Writer::new(alloc);
+    writer.u8(0x11)?;
+    writer.end_vector(start)?;
+    Ok(writer.bytes() == b"\x11\x00".as_slice())
+}
+
+#[test]
+fn vector_started_elsewhere(rt: HostRuntime) -> Result<(), Fail> {
+    assert!(rt; ends_elsewhere(rt.alloc())?);
+    Ok(())
+}
+
+/// Whether a vector is added whole or, where its header finds no memory, taken away; not where its content finds none.
+fn ends_or_stays(writer: &mut Writer, length: usize) -> Result<bool, WireError> {
+    let before = writer.bytes().len();
+    let start = writer.start_vector()?;
+    write_zeros(writer, length)?;
+    let ended = writer.end_vector(start);
+    let added = writer.bytes().len().wrapping_sub(before);
+    Ok(match ended {
+        Ok(()) => length < added,
+        Err(error) => error.number() == 1 && added == 0,
+    })
+}
+
+/// Where the growth for a header is refused, the call answers so, and the writer has what stood before the vector. The
+/// first room is full with 127 bytes of content.
+#[test]
+fn refused_header(rt: HostRuntime) {
+    let mut writer = Writer::new(rt.alloc());
+    assert!(rt; ends_or_stays(&mut writer, 127).unwrap_or(true));
 }

@@ -5,9 +5,9 @@ use crate::small_trees::{
     public,
 };
 use mls_kdf::Secret;
-use mls_leaf::{Bytes, Items};
+use mls_leaf::Bytes;
 use mls_suite::{Glass, Sealed, encrypt_with_label};
-use mls_types::{HpkeCiphertext, UpdatePathNode};
+use mls_types::{Ciphertexts, HpkeCiphertext, UpdatePathNode};
 use std::alloc::Global;
 
 /// The first path secret.
@@ -32,15 +32,15 @@ fn sealed(alloc: Global, key: u8, text: &[u8]) -> Option<HpkeCiphertext> {
 }
 
 /// A text sealed to each of some keys.
-fn sealed_to(alloc: Global, keys: &[u8], text: &[u8]) -> Option<Items<HpkeCiphertext>> {
+fn sealed_to(alloc: Global, keys: &[u8], text: &[u8]) -> Option<Ciphertexts> {
     let mut ciphertexts = Vec::new(alloc);
     for key in keys {
         ciphertexts.push(sealed(alloc, *key, text)?).ok()?;
     }
-    Some(Items::from_vec(ciphertexts))
+    Some(Ciphertexts::from_vec(ciphertexts))
 }
 
-fn node_of(key: Vec<u8>, ciphertexts: Items<HpkeCiphertext>) -> UpdatePathNode {
+fn node_of(key: Vec<u8>, ciphertexts: Ciphertexts) -> UpdatePathNode {
     UpdatePathNode {
         encryption_key: Bytes::from_vec(key),
         ciphertexts,
@@ -52,7 +52,7 @@ fn push_node(
     alloc: Global,
     nodes: &mut Vec<UpdatePathNode>,
     secret: &Secret,
-    ciphertexts: Items<HpkeCiphertext>,
+    ciphertexts: Ciphertexts,
 ) -> Option<()> {
     let pair = node_pair(alloc, secret)?;
     nodes.push(node_of(pair.pk, ciphertexts)).ok()
@@ -69,7 +69,7 @@ fn lower_node(alloc: Global) -> Option<Vec<UpdatePathNode>> {
 fn path_of(
     alloc: Global,
     highest: &Secret,
-    ciphertexts: Items<HpkeCiphertext>,
+    ciphertexts: Ciphertexts,
 ) -> Option<Vec<UpdatePathNode>> {
     let mut nodes = lower_node(alloc)?;
     push_node(alloc, &mut nodes, highest, ciphertexts)?;
@@ -186,10 +186,10 @@ fn changed(alloc: Global, sealed: HpkeCiphertext) -> Option<HpkeCiphertext> {
 }
 
 /// A ciphertext alone.
-fn alone(alloc: Global, sealed: HpkeCiphertext) -> Option<Items<HpkeCiphertext>> {
+fn alone(alloc: Global, sealed: HpkeCiphertext) -> Option<Ciphertexts> {
     let mut ciphertexts = Vec::new(alloc);
     ciphertexts.push(sealed).ok()?;
-    Some(Items::from_vec(ciphertexts))
+    Some(Ciphertexts::from_vec(ciphertexts))
 }
 
 /// The root's path secret sealed to leaf 2, with one bit changed.
@@ -197,7 +197,7 @@ fn changed_sealed(alloc: Global) -> Option<HpkeCiphertext> {
     changed(alloc, sealed(alloc, 2, &second())?)
 }
 
-fn changed_alone(alloc: Global) -> Option<Items<HpkeCiphertext>> {
+fn changed_alone(alloc: Global) -> Option<Ciphertexts> {
     alone(alloc, changed_sealed(alloc)?)
 }
 

@@ -7,8 +7,9 @@ use crate::rows::Step::{
 use crate::rows::Told::{Done, Is, Refused};
 use crate::rows::trees::single;
 use crate::rows::{Row, count_met, count_met_rows};
-use mls_leaf::{LeafError, LeafSource, Node, parent_hash_input, tree_hash_input_of_leaf};
+use mls_leaf::{LeafError, LeafSource, parent_hash_input, tree_hash_input_of_leaf};
 use mls_tree::{Hash, PublicTree};
+use mls_tree_slot::NodeRef;
 use sha2::{Digest, Sha256};
 use std::alloc::Global;
 use std::test::*;
@@ -145,7 +146,7 @@ fn sha256(text: &[u8]) -> Hash {
 fn input_of_node_5(alloc: Global, tree: &PublicTree) -> Result<Vec<u8>, LeafError> {
     let sibling = sha256(&tree_hash_input_of_leaf(alloc, 3, tree.leaf(3))?);
     match tree.node(5) {
-        Some(Node::Parent(parent)) => parent_hash_input(
+        Some(NodeRef::Parent(parent)) => parent_hash_input(
             alloc,
             parent.encryption_key(),
             parent.parent_hash(),

@@ -9,7 +9,7 @@ use mls_leaf::LeafNode;
 use mls_suite::{Glass, decrypt_with_label};
 use mls_tree::PublicTree;
 use mls_treekem::{TreeKemError, seal_count_of, seal_seed};
-use mls_types::{HpkeCiphertext, UpdatePathNode};
+use mls_types::{CiphertextRef, UpdatePathNode};
 use std::alloc::Global;
 
 // By Python's hmac and hashlib: ExpandWithLabel of 32 bytes 09, "seed seal" and the number 0x01020304.
@@ -44,7 +44,7 @@ fn sealed_in_four(alloc: Global, added: &[u32]) -> Option<Vec<UpdatePathNode>> {
 /// How many ciphertexts node i has.
 fn count_at(nodes: &[UpdatePathNode], i: usize) -> usize {
     match nodes.get(i) {
-        Some(node) => node.ciphertexts.as_slice().len(),
+        Some(node) => node.ciphertexts.len(),
         None => 99,
     }
 }
@@ -63,14 +63,13 @@ fn has_counts(alloc: Global, added: &[u32], lower: usize, upper: usize, seals: u
 }
 
 /// What a ciphertext opens to by the key of 32 such bytes.
-fn decrypt(alloc: Global, byte: u8, sealed: &HpkeCiphertext) -> Option<Vec<u8>> {
-    let kem = sealed.kem_output.as_slice();
-    let ct = sealed.ciphertext.as_slice();
+fn decrypt(alloc: Global, byte: u8, sealed: CiphertextRef<'_>) -> Option<Vec<u8>> {
+    let (kem, ct) = (sealed.kem_output, sealed.ciphertext);
     decrypt_with_label::<Glass>(alloc, &[byte; 32], "UpdatePathNode", b"context", kem, ct).ok()?
 }
 
-fn ciphertext_at(nodes: &[UpdatePathNode], i: usize, place: usize) -> Option<&HpkeCiphertext> {
-    nodes.get(i)?.ciphertexts.as_slice().get(place)
+fn ciphertext_at(nodes: &[UpdatePathNode], i: usize, place: usize) -> Option<CiphertextRef<'_>> {
+    nodes.get(i)?.ciphertexts.get(place)
 }
 
 /// What that ciphertext opens to.

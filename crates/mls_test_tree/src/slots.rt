@@ -1,5 +1,5 @@
 use mls_leaf::{Codec, LeafError, LeafNode, Node, ParentNode};
-use mls_tree_slot::{SharedLeaf, Slot};
+use mls_tree_slot::{NodeRef, SharedLeaf, Slot};
 use std::test::*;
 
 /// A leaf of "bob".
@@ -13,7 +13,7 @@ const PARENT: [u8; 4] = [1, 0xaa, 0, 0];
 /// How many leaves the parent in a place lists; nothing where it holds none.
 fn unmerged_count(slot: &Slot) -> Option<usize> {
     match slot.node() {
-        Some(Node::Parent(parent)) => Some(parent.unmerged_leaves().len()),
+        Some(NodeRef::Parent(parent)) => Some(parent.unmerged_leaves().len()),
         _ => None,
     }
 }
@@ -36,7 +36,9 @@ fn places_are_read_and_written(rt: HostRuntime) -> Result<(), Fail> {
     let leaf = SharedLeaf::new(alloc, LeafNode::decode(alloc, &LEAF)?)?;
     let bytes = leaf.into_slot().encode(alloc)?;
     assert_eq!(rt; bytes.len(), 27);
-    assert!(rt; matches!(Slot::decode(alloc, &bytes)?.node(), Some(Node::Leaf(_))));
+    assert!(rt; matches!(Slot::decode(alloc, &bytes)?.node(), Some(NodeRef::Leaf(_))));
+    let parent = Slot::decode(alloc, &[1, 2, 1, 0xaa, 0, 0])?.clone()?;
+    assert_eq!(rt; parent.encode(alloc)?.len(), 6);
     assert!(rt; !Slot::decode(alloc, &[0])?.is_taken());
     assert!(rt; matches!(Slot::decode(alloc, &[2]), Err(LeafError::BadTag)));
     Ok(())

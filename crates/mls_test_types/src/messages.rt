@@ -70,6 +70,52 @@ const COMMITS: &[(&str, u8)] = &[
     ),
 ];
 
+const CIPHERTEXTS: &[(&str, u8)] = &[
+    ("00", 0),
+    ("0401aa01bb", 0),
+    ("0a01aa01bb02ccdd00", 2),
+    ("0801aa01bb02ccdd00", 0),
+    // a text is missing
+    ("0501aa01bb00", 2),
+    // a longer header than is needed
+    ("0501aa4001bb", 5),
+];
+
+#[test]
+fn ciphertexts(rt: HostRuntime) -> Result<(), Fail> {
+    answers::<Ciphertexts>(&rt, rt.alloc(), CIPHERTEXTS)
+}
+
+/// Two ciphertexts: aa with bb, ccdd with no text.
+const TWO_CIPHERTEXTS: &str = "0801aa01bb02ccdd00";
+
+/// Whether these are what is lent, or there is none and the texts are empty.
+fn is_lent(lent: Option<CiphertextRef<'_>>, kem_output: &[u8], ciphertext: &[u8]) -> bool {
+    match lent {
+        Some(lent) => lent.kem_output == kem_output && lent.ciphertext == ciphertext,
+        None => kem_output.is_empty() && ciphertext.is_empty(),
+    }
+}
+
+/// Whether the two are these, and no others are lent.
+fn are_two(ciphertexts: &Ciphertexts) -> bool {
+    ciphertexts.len() == 2
+        && is_lent(ciphertexts.get(0), &[0xaa], &[0xbb])
+        && is_lent(ciphertexts.get(1), &[0xcc, 0xdd], &[])
+        && is_lent(ciphertexts.get(2), &[], &[])
+}
+
+fn lend_two(alloc: Global) -> Result<bool, LeafError> {
+    let read = value_of::<Ciphertexts>(alloc, TWO_CIPHERTEXTS)?;
+    Ok(are_two(&read))
+}
+
+#[test]
+fn ciphertexts_by_number(rt: HostRuntime) -> Result<(), Fail> {
+    assert!(rt; lend_two(rt.alloc())?);
+    Ok(())
+}
+
 #[test]
 fn commits(rt: HostRuntime) -> Result<(), Fail> {
     answers::<Commit>(&rt, rt.alloc(), COMMITS)

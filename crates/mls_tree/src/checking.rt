@@ -27,11 +27,11 @@ use crate::error::TreeError;
 use crate::key_indexes::KeyIndexes;
 use crate::tree::PublicTree;
 use mls_checks::{leaf_capable, leaf_signed};
-use mls_leaf::{LeafNode, Node};
+use mls_leaf::LeafNode;
 use mls_suite::Suite;
 use mls_tree_array::{self as array, HashedSubtree, Subtree};
 use mls_tree_cells::Cells;
-use mls_tree_slot::Slot;
+use mls_tree_slot::{NodeRef, Slot};
 use std::alloc::{AllocError, Global};
 
 /// Whether a leaf has the capabilities, where it isn't blank.
@@ -104,8 +104,8 @@ fn is_fit_or_blank<S: Suite>(node: &Slot) -> bool
     ensures { result ≡ list_all S.crypto.key_ok (cell_keys node.now) }
 {
     match node.node() {
-        Some(Node::Leaf(leaf)) => S::key_ok(leaf.encryption_key.as_slice()),
-        Some(Node::Parent(parent)) => S::key_ok(parent.encryption_key()),
+        Some(NodeRef::Leaf(leaf)) => S::key_ok(leaf.encryption_key.as_slice()),
+        Some(NodeRef::Parent(parent)) => S::key_ok(parent.encryption_key()),
         None => true,
     }
 }

@@ -2,8 +2,9 @@
 
 ghost use Rattle.std.specs.Prelude.{◌≡◌, ◌≤◌, not, [], Some, IsSome, true, IfOk, OnOk, OnErr, length};
 ghost use Rattle.std.specs.Bool.{OnTrue};
-ghost use Rattle.std.specs.Option.{option_copied};
+ghost use Rattle.std.specs.Option.{option_copied, option_map};
 ghost use Rattle.mls_wire.specs.Checks.{Answers};
+ghost use Rattle.mls_tree_slot.specs.Nodes.{lent_node};
 ghost use Rattle.mls_tree_model.specs.Term.{Leaf, leaf_of, width};
 ghost use Rattle.mls_tree_model.specs.Edits.{remove};
 ghost use Rattle.mls_tree_model.specs.Places.{resolution_at};
@@ -26,10 +27,10 @@ ghost use Rattle.mls_tree.specs.Tree.{term, max_leaves, path_answer, add_answer,
 use crate::edits;
 use crate::error::TreeError;
 use crate::key_indexes::KeyIndexes;
-use mls_leaf::{LeafNode, Node};
+use mls_leaf::LeafNode;
 use mls_tree_array::{self as array, Hash, HashedSubtree, Subtree};
 use mls_tree_cells::Cells;
-use mls_tree_slot::{SharedLeaf, Slot};
+use mls_tree_slot::{NodeRef, SharedLeaf, Slot};
 use mls_treemath::MAX_HEIGHT;
 use std::alloc::{AllocError, Global};
 use std::marker::Model;
@@ -194,8 +195,8 @@ impl PublicTree {
     }
 
     /// Node x: None where it is blank or outside the tree.
-    pub fn node(&self, x: u32) -> Option<&Node>
-        ensures { option_copied result ≡ node_at 0 (term self.now) x }
+    pub fn node(&self, x: u32) -> Option<NodeRef<'_>>
+        ensures { option_map lent_node result ≡ node_at 0 (term self.now) x }
     {
         array::node(&self.cells, self.height, x)
     }

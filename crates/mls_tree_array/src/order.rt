@@ -4,9 +4,8 @@ ghost use Rattle.std.specs.Prelude.{◌≡◌, ◌<◌, ◌≤◌, true, length,
 ghost use Rattle.mls_tree_model.specs.Arrays.{without_last_blanks, has_last, may_stand, alternates, height_for, with_padding};
 ghost use Rattle.mls_tree_array.specs.Additions.{PadsTo};
 
-use mls_leaf::Node;
 use mls_tree_cells::Cells;
-use mls_tree_slot::Slot;
+use mls_tree_slot::{NodeRef, Slot};
 use std::alloc::{AllocError, Global};
 
 /// Whether there is a last node, and it isn't blank.
@@ -24,8 +23,8 @@ fn may_stand(even: bool, node: &Slot) -> bool
     ensures { result ≡ may_stand even node.now }
 {
     match node.node() {
-        Some(Node::Leaf(_)) => even,
-        Some(Node::Parent(_)) => !even,
+        Some(NodeRef::Leaf(_)) => even,
+        Some(NodeRef::Parent(_)) => !even,
         None => true,
     }
 }

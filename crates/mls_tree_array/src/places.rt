@@ -4,8 +4,8 @@ ghost use Rattle.std.specs.Prelude.{◌≡◌, suc, ◌+◌, ◌-◌, ◌*◌, �
 ghost use Rattle.std.specs.Option.{option_copied};
 ghost use Rattle.mls_tree_model.specs.Arrays.{leaf_in, parent_in};
 
-use mls_leaf::{LeafNode, Node, ParentNode};
-use mls_tree_slot::Slot;
+use mls_leaf::{LeafNode, ParentNode};
+use mls_tree_slot::{NodeRef, Slot};
 
 /// The number of the root of a tree of this height whose first leaf this is (RFC 9420, appendix C).
 pub(crate) fn root_of(height: u32, first: u32) -> u32
@@ -29,7 +29,7 @@ pub fn leaf_in(node: &Slot) -> Option<&LeafNode>
     ensures { option_copied result ≡ leaf_in node.now }
 {
     match node.node() {
-        Some(Node::Leaf(leaf)) => Some(leaf),
+        Some(NodeRef::Leaf(leaf)) => Some(leaf),
         _ => None,
     }
 }
@@ -39,7 +39,7 @@ pub(crate) fn holds_leaf(node: &Slot) -> bool
     ensures { result ≡ is_some (leaf_in node.now) }
 {
     match node.node() {
-        Some(Node::Leaf(_)) => true,
+        Some(NodeRef::Leaf(_)) => true,
         _ => false,
     }
 }
@@ -49,7 +49,7 @@ pub fn parent_in(node: &Slot) -> Option<&ParentNode>
     ensures { option_copied result ≡ parent_in node.now }
 {
     match node.node() {
-        Some(Node::Parent(parent)) => Some(parent),
+        Some(NodeRef::Parent(parent)) => Some(parent),
         _ => None,
     }
 }

@@ -5,7 +5,7 @@ use Rattle.std.proofs.lemmas.List.{get_or_past, get_or-take, length-take}
 use Rattle.mls_leaf.specs.declared.node.Node.{Node}
 use Rattle.mls_tree_index.specs.declared.kind.KeyKind.{KeyKind}
 use Rattle.mls_tree_index.specs.Keys.{key_of, key_in, repeats_in}
-use Rattle.mls_tree_index.specs.Order.{Entries}
+use Rattle.mls_tree_index.specs.Entries.{AreOrdered}
 use Rattle.mls_tree_index.specs.Indexes.{Listing, Indexes, Without}
 use Rattle.mls_tree_index.proofs.EntryLaws.{no_key}
 use Rattle.mls_tree_index.proofs.CountLaws.{none_blank}
@@ -65,19 +65,22 @@ module _ (kind : KeyKind) where
     ];
   }
 
-  none_listed : Entries (key_in kind []) []
+  none_listed : AreOrdered (key_in kind []) []
   none_listed = record {
-    all = λ x some. absurd (no_key (key_in kind [] x) (none_blank kind) some);
-    keyed = λ j lt. absurd (omega arith);
-    ascend = λ i j lt le. absurd (omega arith);
+    numbers = record {
+      all = λ x some. absurd (no_key (key_in kind [] x) (none_blank kind) some);
+      keyed = λ j lt. absurd (omega arith);
+      ascend = λ i j lt le. absurd (omega arith);
+    };
+    keyed = λ k d lt. absurd (omega arith);
   }
 
   -- none of the cells
-  pub none_indexed : (c : List (Option Node)) (s : Listing) → s.kind ≡ kind → s.numbers ≡ [] → s.repeats ≡ 0 → ((y : ℕ) → key_in kind c y ≡ None) → Indexes c s
+  pub none_indexed : (c : List (Option Node)) (s : Listing) → s.kind ≡ kind → s.entries ≡ [] → s.repeats ≡ 0 → ((y : ℕ) → key_in kind c y ≡ None) → Indexes c s
   unfolding repeats_in
-  none_indexed c s same numbers repeats blank =
+  none_indexed c s same entries repeats blank =
       indexes_alike s [] c (λ y. ap (λ j. key_of j None) same ∙ none_blank kind ∙ sym (blank y) ∙ ap (λ j. key_in j c y) (sym same))
-      (indexes_from kind [] [] s same numbers none_listed repeats)
+      (indexes_from kind [] [] s same entries none_listed repeats)
 
 -- all of them
 whole : (k : KeyKind) (n : ℕ) (cs : List (Option Node)) → length cs ≤ n → (y : ℕ) → key_in k (front n cs) y ≡ key_in k cs y

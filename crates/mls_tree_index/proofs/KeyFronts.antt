@@ -1,17 +1,19 @@
 -- Fronts of keys, and the order by them.
-use Rattle.std.proofs.Common.{◌≡◌, ℕ, zero, suc, ◌+◌, ◌*◌, ◌<◌, ◌==◌, ◌⊎◌, nat_eq, nat_lt, Bool, true, false, cond, List, [], ◌∷◌, get_or, Option, refl, sym, ◌∙◌, ap, subst, arith, inl, inr, eq-eqb, ne_eqb, lt-ltb, le-ltb}
-use Rattle.std.proofs.lemmas.Bool.{true≢false, false_from_ne_true, cases_lt}
+use Rattle.std.proofs.Common.{◌≡◌, ℕ, zero, suc, ◌+◌, ◌*◌, ◌<◌, ◌==◌, ◌⊎◌, nat_eq, nat_lt, Bool, true, false, ◌&&◌, cond, List, [], ◌∷◌, get_or, Option, refl, sym, ◌∙◌, ap, subst, arith, inl, inr, eq-eqb, ne_eqb, lt-ltb, le-ltb}
+use Rattle.std.proofs.lemmas.Bool.{true≢false, false_from_ne_true, cases_Bool, cases_lt}
 use Rattle.std.proofs.lemmas.Cmp.{then_total, on_total, nat_cmp_total}
+use Rattle.std.proofs.Math.Bool.{and-false}
 use Rattle.std.specs.Cmp.{IsTotalOrder}
 use Rattle.std.specs.Cmp.Lexicographic.{pointwise, slice_cmp, same_text}
 use Rattle.std.specs.Option.{unwrap_or}
 use Rattle.std.specs.Ordering.{nat_cmp, ordering_then, is_lt, is_eq, is_gt}
 use Rattle.std.specs.declared.cmp.Ordering.{Ordering}
 use Rattle.std.specs.declared.cmp.Ordering.TheVariants.{Less, Equal, Greater}
-use Rattle.mls_tree_index.specs.declared.entries.Entry.{Entry}
+use Rattle.mls_tree_index.specs.declared.entry.Entry.{Entry}
+use Rattle.mls_tree_index.specs.Keys.{is_key}
 use Rattle.mls_tree_index.specs.Order.{entry_at, entry_cmp}
 use Rattle.mls_tree_index.specs.Entries.{front_of, BeginsWithBytes, IsEntry, fronted, front_cmp}
-use Rattle.mls_tree_index.proofs.OrderLaws.{entry_total, is_above}
+use Rattle.mls_tree_index.proofs.OrderLaws.{entry_total, is_above, key_found, not_both}
 
 pub front_total : IsTotalOrder front_cmp
 front_total = then_total (on_total (λ e. e.0) nat_cmp_total) (on_total (λ e. e.1) entry_total)
@@ -36,6 +38,21 @@ then_other x y s other = unequal (nat_lt x y) (x == y) s (ne_eqb x y other)
 -- and where they are one, all else does
 pub then_same : (x y : ℕ) (s : Ordering) → x ≡ y → s ≡ ordering_then (nat_cmp x y) s
 then_same x y s same = sym (ap (λ r. ordering_then r s) (same_cmp x y same))
+
+is_lower : (v w : Bool) → v ≡ is_lt (cond v Less (cond w Equal Greater))
+is_lower true w = refl
+is_lower false true = refl
+is_lower false false = refl
+
+-- the same of what is lower
+pub lower_other : (x y : ℕ) (s : Ordering) → (x ≡ y → ⊥) → nat_lt x y ≡ is_lt (ordering_then (nat_cmp x y) s)
+lower_other x y s other = is_lower (nat_lt x y) (x == y) ∙ ap is_lt (then_other x y s other)
+
+pub lower_same : (x y : ℕ) (s : Ordering) → x ≡ y → is_lt s ≡ is_lt (ordering_then (nat_cmp x y) s)
+lower_same x y s same = ap is_lt (then_same x y s same)
+
+more_cmp : (x y : ℕ) → y < x → nat_cmp x y ≡ Greater
+more_cmp x y more = ap (λ v. cond v Less (cond (x == y) Equal Greater)) (le-ltb x y (omega arith)) ∙ ap (λ v. cond v Equal Greater) (ne_eqb x y (λ e. absurd (omega arith)))
 
 -- ---- lists in order
 
@@ -171,3 +188,43 @@ module _ (at : ℕ → Option (List ℕ)) (d e : Entry) (one : IsEntry at d) (ot
   pub other_keys : (d.front ≡ e.front → ⊥) → pointwise nat_eq key_d key_e ≡ false
   other_keys apart = false_from_ne_true (pointwise nat_eq key_d key_e) (λ h.
       apart (one.front ∙ ap front_of (sym own_d ∙ same_text key_d key_e (sym h) ∙ own_e) ∙ sym other.front))
+
+-- ---- an entry and a key
+
+module _ (at : ℕ → Option (List ℕ)) (d : Entry) (one : IsEntry at d) (key : List ℕ) where
+  own_key : unwrap_or (at d.number) [] ≡ one.key
+  own_key = ap (λ o. unwrap_or o []) one.here
+
+  -- by its front and then by its key, it is that of a key where it is by its key
+  pub of_by_key : (nat_eq d.front (front_of key) && is_key key (at d.number)) ≡ is_key key (at d.number)
+  of_by_key = elim (cases_Bool (is_key key (at d.number))) [
+    | inl is ↦
+        let same : one.key ≡ key = sym own_key ∙ ap (λ o. unwrap_or o []) (key_found key (at d.number) is) in
+        ap (λ v. v && is_key key (at d.number)) (eq-eqb d.front (front_of key) (one.front ∙ ap front_of same))
+    | inr other ↦ ap (λ v. nat_eq d.front (front_of key) && v) other ∙ and-false _ ∙ sym other
+  ]
+
+  module _ (bytes : BeginsWithBytes key) (x : ℕ) where
+    below_key : d.front < front_of key → slice_cmp nat_cmp (unwrap_or (at d.number) []) key ≡ Less
+    below_key less =
+        ap (λ k. slice_cmp nat_cmp k key) own_key
+        ∙ front_less one.key key one.bytes bytes (subst (λ n. n < front_of key) one.front less)
+
+    above_key : front_of key < d.front → slice_cmp nat_cmp key (unwrap_or (at d.number) []) ≡ Less
+    above_key more =
+        ap (slice_cmp nat_cmp key) own_key
+        ∙ front_less key one.key bytes one.bytes (subst (λ n. front_of key < n) one.front more)
+
+    -- by front, by key and then by number, it is below a key with a number where it is by key and number
+    pub lower_by_key : is_lt (front_cmp (fronted at d) (front_of key, (key, x))) ≡ is_lt (entry_cmp (entry_at at d.number) (key, x))
+    lower_by_key = elim (cases_lt d.front (front_of key)) [
+      | inl less ↦
+          ap (λ r. is_lt (ordering_then r (entry_cmp (entry_at at d.number) (key, x)))) (less_cmp d.front (front_of key) less)
+          ∙ sym (ap (λ r. is_lt (ordering_then r (nat_cmp d.number x))) (below_key less))
+      | inr ge ↦ elim (cases_lt (front_of key) d.front) [
+        | inl more ↦
+            ap (λ r. is_lt (ordering_then r (entry_cmp (entry_at at d.number) (key, x)))) (more_cmp d.front (front_of key) more)
+            ∙ sym (not_both (key, x) (entry_at at d.number) (ap (λ r. ordering_then r (nat_cmp x d.number)) (above_key more)))
+        | inr le ↦ sym (ap is_lt (then_same d.front (front_of key) (entry_cmp (entry_at at d.number) (key, x)) (omega arith)))
+      ]
+    ]

@@ -4,14 +4,19 @@ use Rattle.std.proofs.lemmas.Bool.{cases_Bool, cases_lt, true≢false}
 use Rattle.std.proofs.lemmas.List.{get_or_past, get_or_append_left, get_or-append_right, get_or-replicate, length-replicate}
 use Rattle.mls_leaf.specs.declared.node.Node.{Node}
 use Rattle.mls_tree_index.specs.Keys.{key_of, key_in, repeats_in}
+use Rattle.mls_tree_index.specs.Entries.{numbers_of}
 use Rattle.mls_tree_index.specs.Indexes.{CanLeave, Listing, Indexes}
 use Rattle.mls_tree_index.proofs.EntryLaws.{entries_alike}
+use Rattle.mls_tree_index.proofs.EntryLists.{keyed_whole}
 use Rattle.mls_tree_index.proofs.CountLaws.{none_blank, same_gathered}
 
 -- an index is one of all cells with the same keys at each number: also with blank cells after them, and without
 pub indexes_alike : (t : Listing) (b c : List (Option Node)) → ((x : ℕ) → key_in t.kind b x ≡ key_in t.kind c x) → Indexes b t → Indexes c t
 indexes_alike t b c same is = record {
-  entries = entries_alike (key_in t.kind b) (key_in t.kind c) same t.numbers is.entries;
+  entries = record {
+    numbers = entries_alike (key_in t.kind b) (key_in t.kind c) same (numbers_of t.entries) is.entries.numbers;
+    keyed = keyed_whole (key_in t.kind b) (key_in t.kind c) (λ x some. sym (same x)) t.entries is.entries.keyed;
+  };
   repeats = is.repeats ∙ ap repeats_in (same_gathered _ (none_blank t.kind) b c same);
 }
 

@@ -1,7 +1,7 @@
 -- Laws of entries that are sorted, and of an index that is built of them.
 use Rattle.std.proofs.Common.{◌≡◌, ℕ, zero, suc, ◌+◌, ◌-◌, ◌<◌, ◌≤◌, nat_eq, nat_lt, Bool, true, false, ◌&&◌, cond, List, [], ◌∷◌, ◌++◌, length, get_or, take, drop, Option, Some, None, is_some, refl, sym, ◌∙◌, ap, subst, arith, inl, inr, eq-eqb, ne_eqb, ltb-true, lt-ltb, le-ltb}
 use Rattle.std.proofs.lemmas.Bool.{and_parts, cases_Bool, cases_lt, cases_eq}
-use Rattle.std.proofs.lemmas.List.{get_or_past, get_or-map, get_or-take, length-take, map-append, take_more, drop_more, drop_all}
+use Rattle.std.proofs.lemmas.List.{get_or_past, get_or-take, length-take, map-append, take-map, take_all, take_more, drop_more, drop_all}
 use Rattle.std.proofs.lemmas.List.Edits.{insert_end}
 use Rattle.std.proofs.lemmas.List.Elements.{All-nil, All-push}
 use Rattle.std.proofs.lemmas.List.MinMax.{ranks_by}
@@ -16,15 +16,16 @@ use mir.Val.{bool_byte}
 use Rattle.mls_leaf.specs.declared.node.Node.{Node}
 use Rattle.mls_tree_model.specs.Sets.{has, count, is_distinct}
 use Rattle.mls_tree_model.proofs.CountLaws.{count-append, count_none, distinct_from}
-use Rattle.mls_tree_index.specs.declared.entries.Entry.{Entry}
+use Rattle.mls_tree_index.specs.declared.entry.Entry.{Entry}
 use Rattle.mls_tree_index.specs.declared.kind.KeyKind.{KeyKind}
 use Rattle.mls_tree_index.specs.Keys.{key_of, key_in, keys_of, repeats_in, is_key, is_key_at, is_held}
 use Rattle.mls_tree_index.specs.Order.{Entries, IsGap, entry_at, entry_cmp}
 use Rattle.mls_tree_index.specs.Indexes.{Listing, Indexes, Without}
-use Rattle.mls_tree_index.specs.Entries.{numbers_of, IsEntry, AreEntries, EntriesAscend, fronted, front_cmp, key_at, is_again}
+use Rattle.mls_tree_index.specs.Entries.{numbers_of, IsEntry, AreEntries, AreOrdered, EntriesAscend, fronted, front_cmp, key_at, is_again}
 use Rattle.mls_tree_index.specs.BlankedCells.{cells_without}
 use Rattle.mls_tree_index.proofs.KeyFronts.{front_total, entry_below, other_keys}
 use Rattle.mls_tree_index.proofs.CountLaws.{none_blank}
+use Rattle.mls_tree_index.proofs.EntryLists.{length_numbers, number_at}
 use Rattle.mls_tree_index.proofs.StepLaws.{held_here, held_not_beside, indexes_from, same_index, entered, one_held, none_held}
 use Rattle.mls_tree_index.proofs.FrontLaws.{none_indexed}
 use Rattle.mls_tree_index.proofs.ClearedLaws.{key_cleared, key_left, cleared_part, cleared_none, rest_distinct, back_without}
@@ -91,18 +92,11 @@ module _ (at : ℕ → Option (List ℕ)) where
   few None = omega arith
   few (Some k) = omega arith
 
-  number_at : (es : List Entry) (i : ℕ) (d : Entry) → i < length es → get_or (numbers_of es) i 0 ≡ (get_or es i d).number
-  number_at es i d lt = get_or-map (λ e. e.number) es i d 0 lt
-
   pub entries_moved : (es fs : List Entry) → IsPermutation es fs → AreEntries at es → AreEntries at fs
   entries_moved es fs moved are = record {
     keyed = All-permutation (IsEntry at) es fs moved are.keyed;
     once = λ x. count_moved x (numbers_of es) (numbers_of fs) (IsPermutation-map (λ e. e.number) es fs moved) ∙ are.once x;
   }
-
-  length_numbers : (es : List Entry) → length (numbers_of es) ≡ length es
-  length_numbers [] = refl
-  length_numbers (e ∷ es) = ap suc (length_numbers es)
 
   apart : (es : List Entry) → AreEntries at es → (i j : ℕ) (d : Entry) → i < j → j < length es → (get_or es j d).number ≡ (get_or es i d).number → ⊥
   apart es are i j d less lt same =
@@ -121,10 +115,10 @@ module _ (at : ℕ → Option (List ℕ)) where
 -- whether an entry has the key of that before it
 module _ (at : ℕ → Option (List ℕ)) (es : List Entry) (are : AreEntries at es) (p : ℕ) (some : 0 < p) (lt : p < length es) (d e : Entry) where
   key_last : key_at at es (p - 1) ≡ unwrap_or (at (get_or es (p - 1) d).number) []
-  key_last = ap (λ n. unwrap_or (at n) []) (number_at at es (p - 1) d (omega arith))
+  key_last = ap (λ n. unwrap_or (at n) []) (number_at es (p - 1) d (omega arith))
 
   key_next : key_at at es p ≡ unwrap_or (at (get_or es p e).number) []
-  key_next = ap (λ n. unwrap_or (at n) []) (number_at at es p e lt)
+  key_next = ap (λ n. unwrap_or (at n) []) (number_at es p e lt)
 
   again_by_keys : pointwise nat_eq (unwrap_or (at (get_or es (p - 1) d).number) []) (unwrap_or (at (get_or es p e).number) []) ≡ is_again at es p
   again_by_keys =
@@ -233,23 +227,23 @@ module _ (kind : KeyKind) (cells : List (Option Node)) (es : List Entry) (are : 
       keyless (Some k) h = absurd (omega arith)
 
   -- a listing with no room
-  abbrev pub listing : List ℕ → ℕ → Listing
-  listing ns r = record { kind = kind; numbers = ns; repeats = r; room = 0; shared = false }
+  abbrev pub listing : List Entry → ℕ → Listing
+  listing fs r = record { kind = kind; entries = fs; repeats = r; room = 0; shared = false }
 
-  pub built_none : (s : Listing) → s.kind ≡ kind → s.numbers ≡ [] → s.repeats ≡ 0 → Indexes (built 0) s
-  built_none s same numbers repeats = none_indexed kind (built 0) s same numbers repeats all_blank
+  pub built_none : Indexes (built 0) (listing (take 0 es) 0)
+  built_none = none_indexed kind (built 0) (listing (take 0 es) 0) refl refl refl all_blank
 
-  pub built_all : (i : ℕ) (t : Listing) → length es ≤ i → t.kind ≡ kind → Indexes (built i) (listing t.numbers t.repeats) → Indexes cells t
-  built_all i t all same so_far =
-      let wide = length_numbers (key_in kind cells) es in
-      let is = same_index (built i) (listing t.numbers t.repeats) t (record { kind = same; numbers = refl; repeats = refl }) so_far in
+  pub built_all : (i : ℕ) (t : Listing) → length es ≤ i → t.kind ≡ kind → t.entries ≡ es → Indexes (built i) (listing (take i es) t.repeats) → Indexes cells t
+  built_all i t all same items so_far =
+      let wide = length_numbers es in
+      let is = same_index (built i) (listing (take i es) t.repeats) t (record { kind = same; entries = items ∙ sym (take_all i es all); repeats = refl }) so_far in
       cleared_none t cells (subst (λ ns. Indexes (cells_without 0 ns cells) t) (drop_all i (numbers_of es) (omega arith)) is)
 
   module _ (i : ℕ) (d : Entry) (lt : i < length es) where
     parts : drop i (numbers_of es) ≡ (get_or es i d).number ∷ drop (i + 1) (numbers_of es)
     parts =
-        let wide = length_numbers (key_in kind cells) es in
-        drop_more (numbers_of es) i 0 (omega arith) ∙ ap (λ n. n ∷ drop (i + 1) (numbers_of es)) (number_at (key_in kind cells) es i d lt)
+        let wide = length_numbers es in
+        drop_more (numbers_of es) i 0 (omega arith) ∙ ap (λ n. n ∷ drop (i + 1) (numbers_of es)) (number_at es i d lt)
 
     pub built_without : Without kind (get_or es i d).number cells (built i) (built (i + 1))
     built_without =
@@ -262,20 +256,12 @@ module _ (kind : KeyKind) (cells : List (Option Node)) (es : List Entry) (are : 
 
     pub built_length : (ns : List ℕ) → ns ≡ take i (numbers_of es) → length ns ≡ i
     built_length ns is =
-        let wide = length_numbers (key_in kind cells) es in
+        let wide = length_numbers es in
         let few = length-take i (numbers_of es) in
         let same = ap length is in
         omega arith
 
     module _ (ns : List ℕ) (is : ns ≡ take i (numbers_of es)) where
-      -- the numbers so far, with the next one
-      pub built_numbers : ns ++ (get_or es i d).number ∷ [] ≡ take (i + 1) (numbers_of es)
-      built_numbers =
-          let wide = length_numbers (key_in kind cells) es in
-          ap (λ xs. xs ++ (get_or es i d).number ∷ []) is
-          ∙ ap (λ n. take i (numbers_of es) ++ n ∷ []) (sym (number_at (key_in kind cells) es i d lt))
-          ∙ sym (take_more (numbers_of es) i 0 (omega arith))
-
       low : (k : ℕ) → k < length ns → k < i
       low k less = let all = built_length ns is in omega arith
 
@@ -287,7 +273,7 @@ module _ (kind : KeyKind) (cells : List (Option Node)) (es : List Entry) (are : 
         before k less =
             let at = low k less in
             ap (λ o. (unwrap_or o [], get_or ns k 0)) (sym (cleared_part kind (drop i (numbers_of es)) cells (get_or ns k 0) (entries.keyed k less)))
-            ∙ ap (λ n. entry_at (key_in kind cells) n) (number k less ∙ number_at (key_in kind cells) es k d (omega arith))
+            ∙ ap (λ n. entry_at (key_in kind cells) n) (number k less ∙ number_at es k d (omega arith))
 
         -- the next entry goes behind them
         built_gap : EntriesAscend (key_in kind cells) es → IsGap (key_in kind (built i)) ns (own.key, (get_or es i d).number) i
@@ -305,8 +291,8 @@ module _ (kind : KeyKind) (cells : List (Option Node)) (es : List Entry) (are : 
         again_at some =
             let all = built_length ns is in
             let last = are.keyed (i - 1) d (omega arith) in
-            let key : key_in kind cells (get_or (numbers_of es) (i - 1) 0) ≡ Some last.key = ap (key_in kind cells) (number_at (key_in kind cells) es (i - 1) d (omega arith)) ∙ last.here in
-            let next : key_at (key_in kind cells) es i ≡ own.key = ap (λ n. unwrap_or (key_in kind cells n) []) (number_at (key_in kind cells) es i d lt) ∙ ap (λ o. unwrap_or o []) own.here in
+            let key : key_in kind cells (get_or (numbers_of es) (i - 1) 0) ≡ Some last.key = ap (key_in kind cells) (number_at es (i - 1) d (omega arith)) ∙ last.here in
+            let next : key_at (key_in kind cells) es i ≡ own.key = ap (λ n. unwrap_or (key_in kind cells n) []) (number_at es i d lt) ∙ ap (λ o. unwrap_or o []) own.here in
             ap (λ v. v && is_key own.key (key_in kind cells (get_or ns (i - 1) 0))) (lt-ltb (i - 1) (length ns) (omega arith))
             ∙ ap (λ n. is_key own.key (key_in kind cells n)) (number (i - 1) (omega arith))
             ∙ ap (is_key own.key) key
@@ -330,31 +316,47 @@ module _ (kind : KeyKind) (cells : List (Option Node)) (es : List Entry) (are : 
               out ∙ held_not_beside kind (built i) cells (cleared_part kind (drop i (numbers_of es)) cells) ns entries own.key (get_or es i d).number i (built_gap up) (sym none_at) (λ some. sym (again_at (omega arith) ∙ out))
         ]
 
-      -- the index so far, with the next entry
-      pub built_more : EntriesAscend (key_in kind cells) es → (r m : ℕ) → Indexes (built i) (listing ns r) → m ≡ r + bool_byte (is_again (key_in kind cells) es i) → Indexes (built (i + 1)) (listing (ns ++ (get_or es i d).number ∷ []) m)
-      built_more up r m so_far sum =
-          let entries : Entries (key_in kind (built i)) ns = so_far.entries in
-          let key : key_in kind cells (get_or es i d).number ≡ Some own.key = own.here in
-          let more = entered (get_or es i d).number cells (built i) (built (i + 1)) (listing ns r) built_without own.key key i entries (built_gap entries up) in
-          let all = built_length ns is in
-          indexes_from kind (insert ns i (get_or es i d).number) (built (i + 1)) (listing (ns ++ (get_or es i d).number ∷ []) m) refl
-          (sym (ap (λ p. insert ns p (get_or es i d).number) (sym all) ∙ insert_end ns (get_or es i d).number)) more
-          (sum ∙ counted_more (is_again (key_in kind cells) es i) refl)
-        where
-          more_again : is_again (key_in kind cells) es i ≡ true → r + 1 ≡ repeats_in (keys_of kind (built (i + 1)))
-          more_again on =
-              let held = sym on ∙ again_held so_far.entries up in
-              let count : repeats_in (keys_of kind (built (i + 1))) ≡ repeats_in (keys_of kind (built i)) + 1 = one_held (get_or es i d).number cells (built i) (built (i + 1)) (listing ns r) built_without own.key own.here held in
-              let before : r ≡ repeats_in (keys_of kind (built i)) = so_far.repeats in
-              omega arith
+    -- the entries so far
+    abbrev so_many : List Entry
+    so_many = take i es
 
-          more_new : is_again (key_in kind cells) es i ≡ false → r + 0 ≡ repeats_in (keys_of kind (built (i + 1)))
-          more_new out =
-              let held = sym out ∙ again_held so_far.entries up in
-              let count : repeats_in (keys_of kind (built (i + 1))) ≡ repeats_in (keys_of kind (built i)) = none_held (get_or es i d).number cells (built i) (built (i + 1)) (listing ns r) built_without own.key own.here held in
-              let before : r ≡ repeats_in (keys_of kind (built i)) = so_far.repeats in
-              omega arith
+    their_numbers : numbers_of so_many ≡ take i (numbers_of es)
+    their_numbers = sym (take-map (λ (e : Entry). e.number) i es)
 
-          counted_more : (again : Bool) → is_again (key_in kind cells) es i ≡ again → r + bool_byte again ≡ repeats_in (keys_of kind (built (i + 1)))
-          counted_more true on = more_again on
-          counted_more false out = more_new out
+    one_more : take (i + 1) es ≡ insert so_many i (get_or es i d)
+    one_more =
+        let few = length-take i es in
+        let all : length so_many ≡ i = omega arith in
+        take_more es i d lt
+        ∙ sym (ap (λ p. insert so_many p (get_or es i d)) (sym all) ∙ insert_end so_many (get_or es i d))
+
+    -- the index so far, with the next entry
+    pub built_more : EntriesAscend (key_in kind cells) es → (r m : ℕ) → Indexes (built i) (listing so_many r) → m ≡ r + bool_byte (is_again (key_in kind cells) es i) → Indexes (built (i + 1)) (listing (take (i + 1) es) m)
+    built_more up r m so_far sum =
+        let entries : AreOrdered (key_in kind (built i)) so_many = so_far.entries in
+        let key : key_in kind cells (get_or es i d).number ≡ Some own.key = own.here in
+        let gap = built_gap (numbers_of so_many) their_numbers entries.numbers up in
+        let more = entered (get_or es i d).number cells (built i) (built (i + 1)) (listing so_many r) built_without own.key key (get_or es i d) refl own.front own.bytes i entries gap in
+        indexes_from kind (insert so_many i (get_or es i d)) (built (i + 1)) (listing (take (i + 1) es) m) refl one_more more
+        (sum ∙ counted_more (is_again (key_in kind cells) es i) refl)
+      where
+        again_now : is_again (key_in kind cells) es i ≡ is_held kind (built i) own.key
+        again_now = again_held (numbers_of so_many) their_numbers so_far.entries.numbers up
+
+        more_again : is_again (key_in kind cells) es i ≡ true → r + 1 ≡ repeats_in (keys_of kind (built (i + 1)))
+        more_again on =
+            let held = sym on ∙ again_now in
+            let count : repeats_in (keys_of kind (built (i + 1))) ≡ repeats_in (keys_of kind (built i)) + 1 = one_held (get_or es i d).number cells (built i) (built (i + 1)) (listing so_many r) built_without own.key own.here held in
+            let before : r ≡ repeats_in (keys_of kind (built i)) = so_far.repeats in
+            omega arith
+
+        more_new : is_again (key_in kind cells) es i ≡ false → r + 0 ≡ repeats_in (keys_of kind (built (i + 1)))
+        more_new out =
+            let held = sym out ∙ again_now in
+            let count : repeats_in (keys_of kind (built (i + 1))) ≡ repeats_in (keys_of kind (built i)) = none_held (get_or es i d).number cells (built i) (built (i + 1)) (listing so_many r) built_without own.key own.here held in
+            let before : r ≡ repeats_in (keys_of kind (built i)) = so_far.repeats in
+            omega arith
+
+        counted_more : (again : Bool) → is_again (key_in kind cells) es i ≡ again → r + bool_byte again ≡ repeats_in (keys_of kind (built (i + 1)))
+        counted_more true on = more_again on
+        counted_more false out = more_new out

@@ -6,8 +6,13 @@ use Rattle.mls_leaf.specs.declared.node.Node.{Node}
 use Rattle.mls_tree_model.specs.Sets.{same_bytes, count}
 use Rattle.mls_tree_index.specs.declared.kind.KeyKind.{KeyKind}
 use Rattle.mls_tree_index.specs.Keys.{key_of, key_in, keys_of, is_key, is_key_at, is_held, repeats_in}
+use Rattle.mls_tree_index.specs.declared.entry.Entry.{Entry}
 use Rattle.mls_tree_index.specs.Order.{Entries, IsGap, IsPart}
-use Rattle.mls_tree_index.specs.Indexes.{AnswersAround, Listing, Indexes, IsPlaceOf, SameIndex, Without}
+use Rattle.mls_tree_index.specs.Entries.{AreOrdered, BeginsWithBytes, IsEntry, front_of, numbers_of}
+use Rattle.mls_tree_index.specs.Indexes.{Listing, Indexes, SameIndex, Without}
+use Rattle.mls_tree_index.specs.Searches.{AnswersAround, AnswersAt, IsPlaceOf}
+use Rattle.mls_tree_index.proofs.BlockLaws.{all_insert, all_remove}
+use Rattle.mls_tree_index.proofs.EntryLists.{keyed_whole, length_numbers, numbers_put, numbers_taken, ordered_part}
 use Rattle.mls_tree_index.proofs.OrderLaws.{key_found, key_missed}
 use Rattle.mls_tree_index.proofs.EntryLaws.{with_entry, stands, without_entry}
 use Rattle.mls_tree_index.proofs.EntryLaws.{found_beside, none_before, no_key}
@@ -66,23 +71,27 @@ module _ (kind : KeyKind) (c cells : List (Option Node)) (part : IsPart (key_in 
   ]
 
 -- what makes an index of a listing
-pub indexes_from : (kind : KeyKind) (ns : List ℕ) (c : List (Option Node)) (s : Listing) → s.kind ≡ kind → s.numbers ≡ ns → Entries (key_in kind c) ns → s.repeats ≡ repeats_in (keys_of kind c) → Indexes c s
-indexes_from kind ns c s same numbers es repeats = record {
-  entries = subst (λ j. Entries (key_in j c) s.numbers) (sym same) (subst (Entries (key_in kind c)) (sym numbers) es);
+pub indexes_from : (kind : KeyKind) (es : List Entry) (c : List (Option Node)) (s : Listing) → s.kind ≡ kind → s.entries ≡ es → AreOrdered (key_in kind c) es → s.repeats ≡ repeats_in (keys_of kind c) → Indexes c s
+indexes_from kind es c s same entries are repeats = record {
+  entries = subst (λ j. AreOrdered (key_in j c) s.entries) (sym same) (subst (AreOrdered (key_in kind c)) (sym entries) are);
   repeats = repeats ∙ ap (λ j. repeats_in (keys_of j c)) (sym same);
 }
 
 pub same_index : (c : List (Option Node)) (s t : Listing) → SameIndex s t → Indexes c s → Indexes c t
-same_index c s t same is = indexes_from s.kind s.numbers c t same.kind same.numbers is.entries (same.repeats ∙ is.repeats)
+same_index c s t same is = indexes_from s.kind s.entries c t same.kind same.entries is.entries (same.repeats ∙ is.repeats)
 
--- the answers of a list of numbers are those of a listing with it
-pub place_for : (s : Listing) (kind : KeyKind) (ns : List ℕ) (cells : List (Option Node)) (k : List ℕ) (x p : ℕ) → kind ≡ s.kind → ns ≡ s.numbers → IsPlaceOf kind ns cells k x p → IsPlaceOf s.kind s.numbers cells k x p
-place_for s kind ns cells k x p kinds numbers h =
-    subst (λ j. IsPlaceOf j s.numbers cells k x p) kinds (subst (λ ms. IsPlaceOf kind ms cells k x p) numbers h)
+-- the answers of a list of entries are those of a listing with it
+pub place_for : (s : Listing) (kind : KeyKind) (es : List Entry) (cells : List (Option Node)) (k : List ℕ) (x p : ℕ) → kind ≡ s.kind → es ≡ s.entries → IsPlaceOf kind es cells k x p → IsPlaceOf s.kind s.entries cells k x p
+place_for s kind es cells k x p kinds entries h =
+    subst (λ j. IsPlaceOf j s.entries cells k x p) kinds (subst (λ fs. IsPlaceOf kind fs cells k x p) entries h)
 
-pub around_for : (s : Listing) (kind : KeyKind) (ns : List ℕ) (cells : List (Option Node)) (k : List ℕ) (p : ℕ) (answer : Bool) → kind ≡ s.kind → ns ≡ s.numbers → AnswersAround kind ns cells p k answer → AnswersAround s.kind s.numbers cells p k answer
-around_for s kind ns cells k p answer kinds numbers h =
-    subst (λ j. AnswersAround j s.numbers cells p k answer) kinds (subst (λ ms. AnswersAround kind ms cells p k answer) numbers h)
+pub around_for : (s : Listing) (kind : KeyKind) (es : List Entry) (cells : List (Option Node)) (k : List ℕ) (p : ℕ) (answer : Bool) → kind ≡ s.kind → es ≡ s.entries → AnswersAround kind es cells p k answer → AnswersAround s.kind s.entries cells p k answer
+around_for s kind es cells k p answer kinds entries h =
+    subst (λ j. AnswersAround j s.entries cells p k answer) kinds (subst (λ fs. AnswersAround kind fs cells p k answer) entries h)
+
+pub at_for : (s : Listing) (kind : KeyKind) (es : List Entry) (cells : List (Option Node)) (k : List ℕ) (p : ℕ) (answer : Bool) → kind ≡ s.kind → es ≡ s.entries → AnswersAt kind es cells p k answer → AnswersAt s.kind s.entries cells p k answer
+at_for s kind es cells k p answer kinds entries h =
+    subst (λ j. AnswersAt j s.entries cells p k answer) kinds (subst (λ fs. AnswersAt kind fs cells p k answer) entries h)
 
 -- ---- entering a cell and leaving it
 
@@ -134,14 +143,34 @@ module _ (x : ℕ) (cells b c : List (Option Node)) (t : Listing) (without : Wit
     pub not_less : repeats_in (keys_of t.kind b) ≤ repeats_in (keys_of t.kind c)
     not_less = let sum = more in omega arith
 
-    pub entered : (p : ℕ) → Entries (key_in t.kind b) t.numbers → IsGap (key_in t.kind b) t.numbers (k, x) p → Entries (key_in t.kind c) (insert t.numbers p x)
-    entered p es gap = with_entry x k (key_in t.kind b) (key_in t.kind c) here without.blank without.others t.numbers p es gap
+    -- its keys are those of c
+    part_after : IsPart (key_in t.kind b) (key_in t.kind c)
+    part_after y some = elim (cases_eq y x) [
+      | inl same ↦ absurd (no_key (key_in t.kind b y) (ap (key_in t.kind b) same ∙ without.blank) some)
+      | inr other ↦ sym (without.others y other)
+    ]
 
-    pub placed : (p : ℕ) → Entries (key_in t.kind c) t.numbers → IsGap (key_in t.kind c) t.numbers (k, x) p → p < length t.numbers
-    placed p es gap = (stands x k (key_in t.kind b) (key_in t.kind c) here without.blank without.others t.numbers p es gap).0
+    module _ (e : Entry) (number : e.number ≡ x) (front : e.front ≡ front_of k) (bytes : BeginsWithBytes k) where
+      its_entry : IsEntry (key_in t.kind c) e
+      its_entry = record { key = k; here = ap (key_in t.kind c) number ∙ here; front = front; bytes = bytes }
 
-    pub left : (p : ℕ) → Entries (key_in t.kind c) t.numbers → IsGap (key_in t.kind c) t.numbers (k, x) p → Entries (key_in t.kind b) (remove t.numbers p)
-    left p es gap = without_entry x k (key_in t.kind b) (key_in t.kind c) here without.blank without.others t.numbers p es gap
+      pub entered : (p : ℕ) → AreOrdered (key_in t.kind b) t.entries → IsGap (key_in t.kind b) (numbers_of t.entries) (k, x) p → AreOrdered (key_in t.kind c) (insert t.entries p e)
+      entered p are gap = record {
+        numbers = subst (Entries (key_in t.kind c)) (sym (numbers_put t.entries p e ∙ ap (insert (numbers_of t.entries) p) number)) (with_entry x k (key_in t.kind b) (key_in t.kind c) here without.blank without.others (numbers_of t.entries) p are.numbers gap);
+        keyed = all_insert (IsEntry (key_in t.kind c)) t.entries p e its_entry (keyed_whole (key_in t.kind b) (key_in t.kind c) part_after t.entries are.keyed);
+      }
+
+    pub placed : (p : ℕ) → AreOrdered (key_in t.kind c) t.entries → IsGap (key_in t.kind c) (numbers_of t.entries) (k, x) p → p < length t.entries
+    placed p are gap =
+        let inside = (stands x k (key_in t.kind b) (key_in t.kind c) here without.blank without.others (numbers_of t.entries) p are.numbers gap).0 in
+        let wide = length_numbers t.entries in
+        omega arith
+
+    pub left : (p : ℕ) → AreOrdered (key_in t.kind c) t.entries → IsGap (key_in t.kind c) (numbers_of t.entries) (k, x) p → AreOrdered (key_in t.kind b) (remove t.entries p)
+    left p are gap =
+        ordered_part (key_in t.kind b) (key_in t.kind c) part_after (remove t.entries p)
+        (subst (Entries (key_in t.kind b)) (sym (numbers_taken t.entries p)) (without_entry x k (key_in t.kind b) (key_in t.kind c) here without.blank without.others (numbers_of t.entries) p are.numbers gap))
+        (all_remove (IsEntry (key_in t.kind c)) t.entries p are.keyed)
 
     pub few : repeats_in (keys_of t.kind c) ≤ length cells
     few = subst (λ n. repeats_in (keys_of t.kind c) ≤ n) without.wide (repeats_within (key_of t.kind) (none_blank t.kind) c)

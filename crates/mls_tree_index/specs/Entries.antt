@@ -7,8 +7,8 @@ use Rattle.std.specs.Cmp.Lexicographic.{pointwise}
 use Rattle.std.specs.declared.cmp.Ordering.{Ordering}
 use Rattle.std.specs.declared.cmp.Ordering.TheVariants.{Less}
 use Rattle.mls_tree_model.specs.Sets.{count}
-use Rattle.mls_tree_index.specs.declared.entries.Entry.{Entry}
-use Rattle.mls_tree_index.specs.Order.{entry_at, entry_cmp}
+use Rattle.mls_tree_index.specs.declared.entry.Entry.{Entry}
+use Rattle.mls_tree_index.specs.Order.{Entries, entry_at, entry_cmp}
 
 -- the first four bytes of a key as a number, the first one the highest, with 0 for each that is missing
 abbrev pub front_of : List ℕ → ℕ
@@ -20,6 +20,10 @@ pub record BeginsWithBytes (k : List ℕ) : Type 0 where
   pub second : get_or k 1 0 < 256
   pub third : get_or k 2 0 < 256
   pub fourth : get_or k 3 0 < 256
+
+-- what is read past the end of a list of entries
+abbrev pub blank_entry : Entry
+blank_entry = record { front = 0; number = 0 }
 
 -- the numbers of some entries
 abbrev pub numbers_of : List Entry → List ℕ
@@ -36,6 +40,11 @@ pub record IsEntry (at : ℕ → Option (List ℕ)) (e : Entry) : Type 0 where
 pub record AreEntries (at : ℕ → Option (List ℕ)) (es : List Entry) : Type 0 where
   pub keyed : All (IsEntry at) es
   pub once : (x : ℕ) → count nat_eq x (numbers_of es) ≡ cond (is_some (at x)) 1 0
+
+-- these are the entries of all numbers that have a key, each once, in their order
+pub record AreOrdered (at : ℕ → Option (List ℕ)) (es : List Entry) : Type 0 where
+  pub numbers : Entries at (numbers_of es)
+  pub keyed : All (IsEntry at) es
 
 -- the front of an entry, with its key and its number
 abbrev pub fronted : (ℕ → Option (List ℕ)) → Entry → ℕ × (List ℕ × ℕ)

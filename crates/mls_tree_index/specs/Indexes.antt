@@ -1,24 +1,25 @@
 -- What an index is of some cells.
 use Rattle.std.specs.Prelude.{◌≡◌, ◌≤◌, ◌∷◌, ◌++◌, ℕ, List, length, Option, None, true, Bool}
-use Rattle.std.specs.Ordering.{is_lt}
 use Rattle.mls_leaf.specs.declared.node.Node.{Node}
 use Rattle.mls_tree_index.specs.declared.kind.KeyKind.{KeyKind}
+use Rattle.mls_tree_index.specs.declared.entry.Entry.{Entry}
 use Rattle.mls_tree_index.specs.Keys.{key_in, keys_of, repeats_in, is_held}
-use Rattle.mls_tree_index.specs.Order.{Entries, IsPart, IsGap, entry_at, entry_cmp}
+use Rattle.mls_tree_index.specs.Order.{IsPart}
+use Rattle.mls_tree_index.specs.Entries.{AreOrdered}
 use Rattle.mls_tree_model.specs.Sets.{same_bytes, is_distinct}
 
--- an index: the numbers of cells, how many keys repeat, how many spare blocks edits may take, and whether copies may
+-- an index: the entries of cells, how many keys repeat, how many spare blocks edits may take, and whether copies may
 -- share it
 pub record Listing : Type 0 where
   pub kind : KeyKind
-  pub numbers : List ℕ
+  pub entries : List Entry
   pub repeats : ℕ
   pub room : ℕ
   pub shared : Bool
 
 -- the index of these cells
 pub record Indexes (cells : List (Option Node)) (t : Listing) : Type 0 where
-  pub entries : Entries (key_in t.kind cells) t.numbers
+  pub entries : AreOrdered (key_in t.kind cells) t.entries
   pub repeats : t.repeats ≡ repeats_in (keys_of t.kind cells)
 
 -- where copies may share an index, there is room for so many cells to leave it
@@ -28,7 +29,7 @@ CanLeave n t = t.shared ≡ true → n ≤ t.room
 -- one except for its memory
 pub record SameIndex (s t : Listing) : Type 0 where
   pub kind : t.kind ≡ s.kind
-  pub numbers : t.numbers ≡ s.numbers
+  pub entries : t.entries ≡ s.entries
   pub repeats : t.repeats ≡ s.repeats
 
 -- c has keys of some cells, among them that of cell x, which b alone lacks
@@ -51,14 +52,8 @@ AnswersDistinct t answer = (c : List (Option Node)) → Indexes c t → answer �
 -- an index tells whether one of its cells has a key, where the given cells have all the keys of its cells
 abbrev pub AnswersHeld : Listing → List (Option Node) → List ℕ → Bool → Type 0
 AnswersHeld t cells key answer =
-    (c : List (Option Node)) → IsPart (key_in t.kind c) (key_in t.kind cells) → Entries (key_in t.kind c) t.numbers →
+    (c : List (Option Node)) → IsPart (key_in t.kind c) (key_in t.kind cells) → AreOrdered (key_in t.kind c) t.entries →
     answer ≡ is_held t.kind c key
-
--- a list tells whether one of its cells has a key, by the entries around the place where an entry with the key goes
-abbrev pub AnswersAround : KeyKind → List ℕ → List (Option Node) → ℕ → List ℕ → Bool → Type 0
-AnswersAround k numbers cells place key answer =
-    (c : List (Option Node)) → IsPart (key_in k c) (key_in k cells) → Entries (key_in k c) numbers →
-    (x : ℕ) → IsGap (key_in k c) numbers (key, x) place → answer ≡ is_held k c key
 
 -- an index tells whether no two of some keys and those of its cells are one, where the given cells have all the keys of
 -- its cells
@@ -66,15 +61,6 @@ abbrev pub AnswersNew : Listing → List (Option Node) → List ℕ → List (Li
 AnswersNew t cells key keys answer =
     (c : List (Option Node)) → IsPart (key_in t.kind c) (key_in t.kind cells) → Indexes c t →
     answer ≡ is_distinct same_bytes (key ∷ (keys ++ keys_of t.kind c))
-
--- a place is the gap for a key with a number, among the keys of each list of cells that the given cells have
-abbrev pub IsPlaceOf : KeyKind → List ℕ → List (Option Node) → List ℕ → ℕ → ℕ → Type 0
-IsPlaceOf k numbers cells key x place =
-    (at : ℕ → Option (List ℕ)) → IsPart at (key_in k cells) → Entries at numbers → IsGap at numbers (key, x) place
-
--- whether the entry of cell y comes before a key with a number
-abbrev pub is_lower : KeyKind → List (Option Node) → List ℕ → ℕ → ℕ → Bool
-is_lower k cells key x y = is_lt (entry_cmp (entry_at (key_in k cells) y) (key, x))
 
 -- from one index to the other cell x was entered
 abbrev pub EntersCell : ℕ → List (Option Node) → Listing → Listing → Type 0

@@ -1,71 +1,81 @@
-//! A block of numbers that copies may share.
+//! A block of entries that copies may share.
 
-ghost use Rattle.std.specs.Prelude.{◌≡◌, ◌<◌, ◌≤◌, true, false, length, take, drop, vec_len, IfOk};
+ghost use Rattle.std.specs.Prelude.{◌≡◌, ◌<◌, ◌≤◌, true, false, length, take, drop, get_or, vec_len, IfOk};
 ghost use Rattle.std.specs.List.{insert, remove};
-ghost use Rattle.mls_tree_index.specs.Block.{IsBlock, IsHeld, IsSpare, block_size, half_size, numbers_in};
+ghost use Rattle.mls_tree_index.specs.Block.{IsBlock, IsHeld, IsSpare, block_size, entries_in, half_size};
+ghost use Rattle.mls_tree_index.specs.Entries.{blank_entry};
 
+use crate::entry::Entry;
 use std::alloc::{AllocError, Global};
 use std::marker::Model;
 use std::mem::replace;
 use std::rc::Rc;
 
-/// How many numbers a block has at most.
+/// How many entries a block has at most.
 pub(crate) const BLOCK_SIZE: usize = 512;
 
-/// How many numbers each half of a full block has.
+/// How many entries each half of a full block has.
 pub(crate) const HALF_SIZE: usize = BLOCK_SIZE / 2;
 
 /// Numbers that are one's own, or such that copies share.
 #[derive(Drop)]
 enum Holder {
-    Own(Vec<u32>),
-    Shared(Rc<Vec<u32>>),
+    Own(Vec<Entry>),
+    Shared(Rc<Vec<Entry>>),
 }
 
-/// A block of numbers that copies may share. It has memory for as many as a block has at most.
+/// A block of entries that copies may share. It has memory for as many as a block has at most.
 #[derive(Drop)]
 pub(crate) struct Block {
     holder: Holder,
 }
 
 impl Model for Block {
-    ghost use Rattle.mls_tree_index.specs.Block.{BlockNumbers, IsHeld, is_shared, numbers_in};
+    ghost use Rattle.mls_tree_index.specs.Block.{BlockEntries, IsHeld, entries_in, is_shared};
 
-    ghost Value = { BlockNumbers };
+    ghost Value = { BlockEntries };
 
-    ghost view = { λ b. record { numbers = numbers_in b.holder; shared = is_shared b.holder } };
+    ghost view = { λ b. record { entries = entries_in b.holder; shared = is_shared b.holder } };
 
     ghost invariant = { λ b. IsHeld b.holder };
 }
 
-/// The memory of a block, with these numbers.
-pub(crate) fn make_block(alloc: Global, numbers: &[u32]) -> Result<Vec<u32>, AllocError>
-    requires { length numbers.now ≤ block_size }
-    ensures items { IfOk result (λ v. v.items ≡ numbers.now) }
+/// The memory of a block, with these entries.
+pub(crate) fn make_block(alloc: Global, entries: &[Entry]) -> Result<Vec<Entry>, AllocError>
+    requires { length entries.now ≤ block_size }
+    ensures items { IfOk result (λ v. v.items ≡ entries.now) }
     ensures block { IfOk result (λ v. IsBlock v) }
 {
     let mut block = Vec::with_capacity(alloc, BLOCK_SIZE)?;
-    block.extend_from_slice(numbers)?;
+    block.extend_from_slice(entries)?;
     Ok(block)
 }
 
-/// Puts a number into a block that isn't full.
-fn put_in(block: &mut Vec<u32>, offset: usize, x: u32)
+/// The entry of a block at an offset.
+pub(crate) fn entry_in(block: &[Entry], offset: usize) -> Entry
+    requires { offset < length block.now }
+    ensures { result ≡ get_or block.now offset blank_entry }
+{
+    block[offset]
+}
+
+/// Puts an entry into a block that isn't full.
+fn put_in(block: &mut Vec<Entry>, offset: usize, entry: Entry)
     requires block { IsBlock block.old }
     requires room { vec_len block.old < block_size }
     requires offset { offset ≤ vec_len block.old }
-    ensures items { block.new.items ≡ insert block.old.items offset x }
+    ensures items { block.new.items ≡ insert block.old.items offset entry }
     ensures block { IsBlock block.new }
 {
     // There is room, so this isn't refused.
-    let Ok(()) = block.insert(offset, x) else {
+    let Ok(()) = block.insert(offset, entry) else {
         return;
     };
 }
 
-/// Takes the number at a place out, and answers how many are left. `Vec::remove` would move the others in short parts,
+/// Takes the entry at a place out, and answers how many are left. `Vec::remove` would move the others in short parts,
 /// for twice the work.
-fn take_out(block: &mut Vec<u32>, offset: usize) -> usize
+fn take_out(block: &mut Vec<Entry>, offset: usize) -> usize
     requires block { IsBlock block.old }
     requires offset { offset < vec_len block.old }
     ensures items { block.new.items ≡ remove block.old.items offset }
@@ -79,7 +89,7 @@ fn take_out(block: &mut Vec<u32>, offset: usize) -> usize
 }
 
 /// Splits a full block in halves, and answers the upper one, which stands in a spare block from then on.
-fn split_upper(block: &mut Vec<u32>, mut spare: Vec<u32>) -> Vec<u32>
+fn split_upper(block: &mut Vec<Entry>, mut spare: Vec<Entry>) -> Vec<Entry>
     requires block { IsBlock block.old }
     requires full { vec_len block.old ≡ block_size }
     requires spare { IsSpare spare }
@@ -97,17 +107,17 @@ fn split_upper(block: &mut Vec<u32>, mut spare: Vec<u32>) -> Vec<u32>
     spare
 }
 
-/// The numbers as one's own: where others share them, they are copied into a spare block.
-fn take_numbers(holder: Holder, mut spare: Vec<u32>) -> Vec<u32>
+/// The entries as one's own: where others share them, they are copied into a spare block.
+fn take_entries(holder: Holder, mut spare: Vec<Entry>) -> Vec<Entry>
     requires held { IsHeld holder }
     requires spare { IsSpare spare }
-    ensures numbers { result.items ≡ numbers_in holder }
+    ensures entries { result.items ≡ entries_in holder }
     ensures block { IsBlock result }
 {
     match holder {
-        Holder::Own(numbers) => numbers,
+        Holder::Own(entries) => entries,
         Holder::Shared(shared) => match Rc::try_unwrap(shared) {
-            Ok(numbers) => numbers,
+            Ok(entries) => entries,
             Err(shared) => {
                 // The spare block has memory for them, so this isn't refused.
                 let Ok(()) = spare.extend_from_slice(shared.as_ref().as_slice()) else {
@@ -119,29 +129,29 @@ fn take_numbers(holder: Holder, mut spare: Vec<u32>) -> Vec<u32>
     }
 }
 
-/// The numbers as one's own where no other shares them.
-fn unwrap_numbers(holder: Holder) -> Holder
+/// The entries as one's own where no other shares them.
+fn unwrap_entries(holder: Holder) -> Holder
     requires { IsHeld holder }
-    ensures numbers { numbers_in result ≡ numbers_in holder }
+    ensures entries { entries_in result ≡ entries_in holder }
     ensures held { IsHeld result }
 {
     match holder {
-        Holder::Own(numbers) => Holder::Own(numbers),
+        Holder::Own(entries) => Holder::Own(entries),
         Holder::Shared(shared) => match Rc::try_unwrap(shared) {
-            Ok(numbers) => Holder::Own(numbers),
+            Ok(entries) => Holder::Own(entries),
             Err(shared) => Holder::Shared(shared),
         },
     }
 }
 
-/// The numbers behind a pointer that copies share. Without memory for the pointer they stay one's own.
-fn share_numbers(alloc: Global, holder: Holder) -> Holder
+/// The entries behind a pointer that copies share. Without memory for the pointer they stay one's own.
+fn share_entries(alloc: Global, holder: Holder) -> Holder
     requires { IsHeld holder }
-    ensures numbers { numbers_in result ≡ numbers_in holder }
+    ensures entries { entries_in result ≡ entries_in holder }
     ensures held { IsHeld result }
 {
     match holder {
-        Holder::Own(numbers) => match Rc::new(alloc, numbers) {
+        Holder::Own(entries) => match Rc::new(alloc, entries) {
             Ok(shared) => Holder::Shared(shared),
             Err(failed) => Holder::Own(failed.value),
         },
@@ -150,23 +160,23 @@ fn share_numbers(alloc: Global, holder: Holder) -> Holder
 }
 
 impl Block {
-    /// A block of one's own with these numbers.
-    pub(crate) fn of(numbers: Vec<u32>) -> Block
-        requires { IsBlock numbers }
-        ensures { result ≡ record { numbers = numbers.items; shared = false } }
+    /// A block of one's own with these entries.
+    pub(crate) fn of(entries: Vec<Entry>) -> Block
+        requires { IsBlock entries }
+        ensures { result ≡ record { entries = entries.items; shared = false } }
     {
         Block {
-            holder: Holder::Own(numbers),
+            holder: Holder::Own(entries),
         }
     }
 
-    /// Its numbers.
-    pub(crate) fn numbers(&self) -> &[u32]
-        ensures numbers { result.now ≡ self.now.numbers }
+    /// Its entries.
+    pub(crate) fn entries(&self) -> &[Entry]
+        ensures entries { result.now ≡ self.now.entries }
         ensures few { length result.now ≤ block_size }
     {
         match &self.holder {
-            Holder::Own(numbers) => numbers.as_slice(),
+            Holder::Own(entries) => entries.as_slice(),
             Holder::Shared(shared) => shared.as_ref().as_slice(),
         }
     }
@@ -183,18 +193,18 @@ impl Block {
 
     /// Lets later copies share it. Without memory for the pointer it stays one's own.
     pub(crate) fn share(&mut self, alloc: Global)
-        ensures { self.new.numbers ≡ self.old.numbers }
+        ensures { self.new.entries ≡ self.old.entries }
     {
         if self.is_shared() {
             return;
         }
         let holder = replace(&mut self.holder, Holder::Own(Vec::new(alloc)));
-        self.holder = share_numbers(alloc, holder);
+        self.holder = share_entries(alloc, holder);
     }
 
     /// Makes it one's own where no other shares it, and answers whether it is.
     pub(crate) fn try_own(&mut self, alloc: Global) -> bool
-        ensures numbers { self.new.numbers ≡ self.old.numbers }
+        ensures entries { self.new.entries ≡ self.old.entries }
         ensures own { result ≡ true → self.new.shared ≡ false }
         ensures other { result ≡ false → self.old.shared ≡ true }
         ensures stays { self.old.shared ≡ false → self.new.shared ≡ false }
@@ -203,65 +213,68 @@ impl Block {
             return true;
         }
         let holder = replace(&mut self.holder, Holder::Own(Vec::new(alloc)));
-        self.holder = unwrap_numbers(holder);
+        self.holder = unwrap_entries(holder);
         !self.is_shared()
     }
 
-    /// Makes it one's own: where others share its numbers, they are copied into a spare block.
-    pub(crate) fn make_own(&mut self, spare: Vec<u32>)
+    /// Makes it one's own: where others share its entries, they are copied into a spare block.
+    pub(crate) fn make_own(&mut self, spare: Vec<Entry>)
         requires { IsSpare spare }
-        ensures { self.new ≡ record { numbers = self.old.numbers; shared = false } }
+        ensures { self.new ≡ record { entries = self.old.entries; shared = false } }
     {
         let alloc = *spare.allocator();
         let holder = replace(&mut self.holder, Holder::Own(Vec::new(alloc)));
-        self.holder = Holder::Own(take_numbers(holder, spare));
+        self.holder = Holder::Own(take_entries(holder, spare));
     }
 
-    /// Puts a number in. It isn't full.
-    pub(crate) fn put_in(&mut self, offset: usize, x: u32)
+    /// Puts an entry in. It isn't full.
+    pub(crate) fn put_in(&mut self, offset: usize, entry: Entry)
         requires own { self.old.shared ≡ false }
-        requires room { length self.old.numbers < block_size }
-        requires offset { offset ≤ length self.old.numbers }
-        ensures { self.new ≡ record { numbers = insert self.old.numbers offset x; shared = false } }
+        requires room { length self.old.entries < block_size }
+        requires offset { offset ≤ length self.old.entries }
+        ensures { self.new ≡ record {
+          entries = insert self.old.entries offset entry;
+          shared = false;
+        } }
     {
         match &mut self.holder {
-            Holder::Own(numbers) => put_in(numbers, offset, x),
+            Holder::Own(entries) => put_in(entries, offset, entry),
             Holder::Shared(_) => unreachable!(),
         }
     }
 
-    /// Takes the number at a place out, and answers how many are left.
+    /// Takes the entry at a place out, and answers how many are left.
     pub(crate) fn take_out(&mut self, offset: usize) -> usize
         requires own { self.old.shared ≡ false }
-        requires offset { offset < length self.old.numbers }
-        ensures numbers { self.new ≡ record {
-          numbers = remove self.old.numbers offset;
+        requires offset { offset < length self.old.entries }
+        ensures entries { self.new ≡ record {
+          entries = remove self.old.entries offset;
           shared = false;
         } }
-        ensures left { result ≡ length self.new.numbers }
+        ensures left { result ≡ length self.new.entries }
     {
         match &mut self.holder {
-            Holder::Own(numbers) => take_out(numbers, offset),
+            Holder::Own(entries) => take_out(entries, offset),
             Holder::Shared(_) => unreachable!(),
         }
     }
 
     /// Splits it in halves, and answers the upper one, which stands in a spare block from then on. It is full.
-    pub(crate) fn split(&mut self, spare: Vec<u32>) -> Block
+    pub(crate) fn split(&mut self, spare: Vec<Entry>) -> Block
         requires own { self.old.shared ≡ false }
-        requires full { length self.old.numbers ≡ block_size }
+        requires full { length self.old.entries ≡ block_size }
         requires spare { IsSpare spare }
         ensures lower { self.new ≡ record {
-          numbers = take half_size self.old.numbers;
+          entries = take half_size self.old.entries;
           shared = false;
         } }
         ensures upper { result ≡ record {
-          numbers = drop half_size self.old.numbers;
+          entries = drop half_size self.old.entries;
           shared = false;
         } }
     {
         match &mut self.holder {
-            Holder::Own(numbers) => Block::of(split_upper(numbers, spare)),
+            Holder::Own(entries) => Block::of(split_upper(entries, spare)),
             Holder::Shared(_) => unreachable!(),
         }
     }
@@ -272,8 +285,8 @@ impl Clone for Block {
 
     fn clone(&self) -> Result<Block, AllocError> {
         let holder = match &self.holder {
-            Holder::Own(numbers) => {
-                Holder::Own(make_block(*numbers.allocator(), numbers.as_slice())?)
+            Holder::Own(entries) => {
+                Holder::Own(make_block(*entries.allocator(), entries.as_slice())?)
             }
             Holder::Shared(shared) => Holder::Shared(shared.clone()?),
         };

@@ -1,38 +1,39 @@
-//! A list of numbers in blocks, so that an edit moves numbers of one block alone.
+//! A list of entries in blocks, so that an edit moves entries of one block alone.
 
 ghost use Rattle.std.specs.Prelude.{◌≡◌, ℕ, ◌+◌, ◌-◌, ◌<◌, ◌≤◌, suc, [], true, false, length, get_or, vec_len, IfOk, OnOk};
-ghost use Rattle.std.specs.List.{concat, insert, remove};
+ghost use Rattle.std.specs.List.{insert, remove};
 ghost use Rattle.std.specs.Vec.{vec_capacity};
 ghost use Rattle.mls_tree_index.specs.Block.{IsSpare, block_size};
-ghost use Rattle.mls_tree_index.specs.Blocks.{AreBlocks, AreKept, IsNumberAt, IsOpenAt, IsOwnAt, IsSpot, PushesBlock, PutsNumber, TakesNumber, are_shared, blocks_of, least_free, place_in, place_of, room_of, split_at};
+ghost use Rattle.mls_tree_index.specs.Blocks.{AreBlocks, AreKept, IsEntryAt, IsOpenAt, IsOwnAt, IsSpot, PushesBlock, PutsEntry, TakesEntry, are_shared, blocks_of, joined, least_free, place_in, place_of, room_of, split_at};
 
-use crate::block::{BLOCK_SIZE, Block, HALF_SIZE, make_block};
+use crate::block::{BLOCK_SIZE, Block, HALF_SIZE, entry_in, make_block};
+use crate::entry::Entry;
 use std::alloc::{AllocError, Global};
 use std::marker::Model;
 
 /// How few blocks a list has whose copies copy them all: for less than their pointers would cost.
 const FEW_BLOCKS: usize = 32;
 
-/// How many numbers a block of a new list has, except for the last one: fewer than fit, so that no split comes soon.
+/// How many entries a block of a new list has, except for the last one: fewer than fit, so that no split comes soon.
 const NEW_SIZE: usize = 448;
 
-/// A place of a list in blocks: so many numbers of a block stand before it.
+/// A place of a list in blocks: so many entries of a block stand before it.
 #[derive(Clone, Copy)]
 pub(crate) struct Spot {
     pub(crate) block: usize,
     pub(crate) offset: usize,
 }
 
-/// A list of numbers in blocks that copies may share. There is a first block, and each other one has a number. A block
-/// that copies share is copied before it is edited, and a full block is split where a number enters it: into spare
+/// A list of entries in blocks that copies may share. There is a first block, and each other one has an entry. A block
+/// that copies share is copied before it is edited, and a full block is split where an entry enters it: into spare
 /// blocks that were made beforehand, so that no edit takes memory. A list of a few blocks is copied whole, and none are
 /// made for it while its blocks have free places.
 #[derive(Drop)]
 pub(crate) struct Blocks {
     list: Vec<Block>,
-    /// Blocks with no number, for copies of blocks and for the upper halves of those that are split. The list has
+    /// Blocks with no entry, for copies of blocks and for the upper halves of those that are split. The list has
     /// memory for them.
-    spares: Vec<Vec<u32>>,
+    spares: Vec<Vec<Entry>>,
 }
 
 impl Model for Blocks {
@@ -50,22 +51,22 @@ impl Model for Blocks {
     ghost invariant = { λ b. AreKept b.list b.spares };
 }
 
-/// Adds a block of one's own with these numbers at the end.
-fn push_block(list: &mut Vec<Block>, numbers: &[u32]) -> Result<(), AllocError>
-    requires { length numbers.now ≤ block_size }
-    ensures blocks { OnOk result (PushesBlock numbers.now list.old.items list.new.items) }
+/// Adds a block of one's own with these entries at the end.
+fn push_block(list: &mut Vec<Block>, entries: &[Entry]) -> Result<(), AllocError>
+    requires { length entries.now ≤ block_size }
+    ensures blocks { OnOk result (PushesBlock entries.now list.old.items list.new.items) }
     ensures own { OnOk result
         (are_shared list.old.items ≡ false → are_shared list.new.items ≡ false) }
 {
-    let block = make_block(*list.allocator(), numbers)?;
+    let block = make_block(*list.allocator(), entries)?;
     list.push(Block::of(block))?;
     Ok(())
 }
 
-/// Adds blocks with no number, until there are so many, and makes room for them in the list.
+/// Adds blocks with no entry, until there are so many, and makes room for them in the list.
 fn add_spares(
     list: &mut Vec<Block>,
-    spares: &mut Vec<Vec<u32>>,
+    spares: &mut Vec<Vec<Entry>>,
     count: usize,
 ) -> Result<(), AllocError>
     requires { AreKept list.old spares.old }
@@ -85,13 +86,13 @@ fn add_spares(
     Ok(())
 }
 
-/// How many more numbers fit into each block.
+/// How many more entries fit into each block.
 fn count_free(list: &[Block]) -> usize
     ensures { result ≡ least_free (blocks_of list.now) }
 {
     let mut free = BLOCK_SIZE;
     for block in list {
-        free = free.min(BLOCK_SIZE - block.numbers().len());
+        free = free.min(BLOCK_SIZE - block.entries().len());
     }
     free
 }
@@ -114,7 +115,7 @@ fn spares_for(list: &[Block], count: usize) -> usize
 }
 
 /// Makes a block one's own: where others share it, it takes a spare block.
-fn own_block(list: &mut Vec<Block>, spares: &mut Vec<Vec<u32>>, b: usize)
+fn own_block(list: &mut Vec<Block>, spares: &mut Vec<Vec<Entry>>, b: usize)
     requires kept { AreKept list.old spares.old }
     requires block { b < vec_len list.old }
     requires room { are_shared list.old.items ≡ true → 0 < vec_len spares.old }
@@ -136,8 +137,8 @@ fn own_block(list: &mut Vec<Block>, spares: &mut Vec<Vec<u32>>, b: usize)
     list[b].make_own(spare);
 }
 
-/// Splits a full block of one's own in halves, the upper one into a block with no number. The list has memory for that.
-fn split_block(list: &mut Vec<Block>, b: usize, spare: Vec<u32>)
+/// Splits a full block of one's own in halves, the upper one into a block with no entry. The list has memory for that.
+fn split_block(list: &mut Vec<Block>, b: usize, spare: Vec<Entry>)
     requires own { IsOwnAt list.old.items b }
     requires full { length (get_or (blocks_of list.old.items) b []) ≡ block_size }
     requires room { vec_len list.old < vec_capacity list.old }
@@ -156,9 +157,9 @@ fn split_block(list: &mut Vec<Block>, b: usize, spare: Vec<u32>)
     };
 }
 
-/// Splits the block of a place, one's own, where it is full, and answers the place before which the same numbers stand
+/// Splits the block of a place, one's own, where it is full, and answers the place before which the same entries stand
 /// then.
-fn make_way(list: &mut Vec<Block>, spares: &mut Vec<Vec<u32>>, spot: Spot) -> Spot
+fn make_way(list: &mut Vec<Block>, spares: &mut Vec<Vec<Entry>>, spot: Spot) -> Spot
     requires kept { AreKept list.old spares.old }
     requires room { 0 < vec_len spares.old + least_free (blocks_of list.old.items) }
     requires spot { IsSpot (blocks_of list.old.items) spot }
@@ -167,14 +168,14 @@ fn make_way(list: &mut Vec<Block>, spares: &mut Vec<Vec<u32>>, spot: Spot) -> Sp
     ensures room { vec_len spares.old ≤ suc (vec_len spares.new) }
     ensures free { vec_len spares.old + least_free (blocks_of list.old.items) ≤
         vec_len spares.new + suc (least_free (blocks_of list.new.items) - 1) }
-    ensures numbers { concat (blocks_of list.new.items) ≡ concat (blocks_of list.old.items) }
+    ensures entries { joined (blocks_of list.new.items) ≡ joined (blocks_of list.old.items) }
     ensures spot { IsOpenAt (blocks_of list.new.items) result }
     ensures place { place_of (blocks_of list.new.items) result ≡
         place_of (blocks_of list.old.items) spot }
     ensures own { IsOwnAt list.new.items result.block }
     ensures others { are_shared list.old.items ≡ false → are_shared list.new.items ≡ false }
 {
-    if list[spot.block].numbers().len() < BLOCK_SIZE {
+    if list[spot.block].entries().len() < BLOCK_SIZE {
         return spot;
     }
     // There is room, so there is a spare one.
@@ -191,7 +192,7 @@ fn make_way(list: &mut Vec<Block>, spares: &mut Vec<Vec<u32>>, spot: Spot) -> Sp
     }
 }
 
-/// Takes the number at an offset of a block of one's own out, and the block too where it had no other and isn't the
+/// Takes the entry at an offset of a block of one's own out, and the block too where it had no other and isn't the
 /// only one.
 fn take_from(list: &mut Vec<Block>, b: usize, offset: usize)
     requires blocks { AreBlocks (blocks_of list.old.items) }
@@ -201,7 +202,7 @@ fn take_from(list: &mut Vec<Block>, b: usize, offset: usize)
     ensures len { vec_len list.new ≤ vec_len list.old }
     ensures capacity { vec_capacity list.new ≡ vec_capacity list.old }
     ensures free { least_free (blocks_of list.old.items) ≤ least_free (blocks_of list.new.items) }
-    ensures numbers { concat (blocks_of list.new.items) ≡ remove (concat (blocks_of list.old.items))
+    ensures entries { joined (blocks_of list.new.items) ≡ remove (joined (blocks_of list.old.items))
         (place_in (blocks_of list.old.items) b offset) }
     ensures others { are_shared list.old.items ≡ false → are_shared list.new.items ≡ false }
 {
@@ -226,7 +227,7 @@ fn share_all(list: &mut Vec<Block>)
     }
 }
 
-/// Makes a block one's own. Without memory for a copy the numbers stay.
+/// Makes a block one's own. Without memory for a copy the entries stay.
 fn own_one(list: &mut Vec<Block>, b: usize) -> Result<(), AllocError>
     requires { b < vec_len list.old }
     ensures blocks { blocks_of list.new.items ≡ blocks_of list.old.items }
@@ -244,7 +245,7 @@ fn own_one(list: &mut Vec<Block>, b: usize) -> Result<(), AllocError>
     Ok(())
 }
 
-/// Makes each block one's own. Without memory for one the numbers stay.
+/// Makes each block one's own. Without memory for one the entries stay.
 fn own_all(list: &mut Vec<Block>) -> Result<(), AllocError>
     ensures blocks { blocks_of list.new.items ≡ blocks_of list.old.items }
     ensures len { vec_len list.new ≡ vec_len list.old }
@@ -259,13 +260,13 @@ fn own_all(list: &mut Vec<Block>) -> Result<(), AllocError>
 }
 
 impl Blocks {
-    /// The list of these numbers.
-    pub(crate) fn new(alloc: Global, numbers: &[u32]) -> Result<Blocks, AllocError>
-        ensures numbers { IfOk result (λ b. concat b.blocks ≡ numbers.now) }
+    /// The list of these entries.
+    pub(crate) fn new(alloc: Global, entries: &[Entry]) -> Result<Blocks, AllocError>
+        ensures entries { IfOk result (λ b. joined b.blocks ≡ entries.now) }
         ensures own { IfOk result (λ b. b.shared ≡ false) }
     {
         let mut list = Vec::new(alloc);
-        let (first, mut rest) = numbers.split_at(numbers.len().min(NEW_SIZE));
+        let (first, mut rest) = entries.split_at(entries.len().min(NEW_SIZE));
         push_block(&mut list, first)?;
         while !rest.is_empty() {
             let (next, others) = rest.split_at(rest.len().min(NEW_SIZE));
@@ -285,33 +286,35 @@ impl Blocks {
         self.list.len()
     }
 
-    /// The numbers of a block.
-    pub(crate) fn block(&self, b: usize) -> &[u32]
+    /// The entries of a block.
+    pub(crate) fn block(&self, b: usize) -> &[Entry]
         requires { b < length self.now.blocks }
-        ensures numbers { result.now ≡ get_or self.now.blocks b [] }
+        ensures entries { result.now ≡ get_or self.now.blocks b [] }
         ensures full { 0 < b → 0 < length result.now }
     {
-        self.list[b].numbers()
+        self.list[b].entries()
     }
 
-    /// The number behind a place, where there is one.
-    pub(crate) fn number_at(&self, spot: Spot) -> Option<u32>
+    /// The entry behind a place, where there is one.
+    pub(crate) fn entry_at(&self, spot: Spot) -> Option<Entry>
         requires { IsSpot self.now.blocks spot }
-        ensures { IsNumberAt (concat self.now.blocks) (place_of self.now.blocks spot) result }
+        ensures { IsEntryAt (joined self.now.blocks) (place_of self.now.blocks spot) result }
     {
         let block = self.block(spot.block);
         if spot.offset < block.len() {
-            return Some(block[spot.offset]);
+            let own = entry_in(block, spot.offset);
+            return Some(own);
         }
         let last = self.count() - 1;
         if spot.block < last {
-            return Some(self.block(spot.block + 1)[0]);
+            let next = entry_in(self.block(spot.block + 1), 0);
+            return Some(next);
         }
         None
     }
 
-    /// Makes so much room: an edit takes a spare block where its block is shared, and entering a number another one
-    /// where the block is full. Without memory for spare blocks the numbers stay as they are.
+    /// Makes so much room: an edit takes a spare block where its block is shared, and entering an entry another one
+    /// where the block is full. Without memory for spare blocks the entries stay as they are.
     pub(crate) fn reserve(&mut self, count: usize) -> Result<(), AllocError>
         ensures room { OnOk result (count ≤ self.new.room) }
         ensures more { self.old.room ≤ self.new.room }
@@ -335,7 +338,7 @@ impl Blocks {
         share_all(&mut self.list);
     }
 
-    /// Makes each block one's own. Without memory for one the numbers stay as they are.
+    /// Makes each block one's own. Without memory for one the entries stay as they are.
     pub(crate) fn make_own(&mut self) -> Result<(), AllocError>
         ensures blocks { self.new.blocks ≡ self.old.blocks }
         ensures room { self.old.room ≤ self.new.room }
@@ -344,27 +347,27 @@ impl Blocks {
         own_all(&mut self.list)
     }
 
-    /// Puts a number at a place. There is room for a copy of its block and for a split.
-    pub(crate) fn insert(&mut self, spot: Spot, x: u32)
+    /// Puts an entry at a place. There is room for a copy of its block and for a split.
+    pub(crate) fn insert(&mut self, spot: Spot, entry: Entry)
         requires room { 2 ≤ self.old.room }
         requires spot { IsSpot self.old.blocks spot }
         ensures room { self.old.room ≤ self.new.room + 2 }
-        ensures numbers { PutsNumber spot x self.old self.new }
+        ensures entries { PutsEntry spot entry self.old self.new }
         ensures own { self.old.shared ≡ false → self.new.shared ≡ false }
     {
         own_block(&mut self.list, &mut self.spares, spot.block);
         let spot = make_way(&mut self.list, &mut self.spares, spot);
-        self.list[spot.block].put_in(spot.offset, x);
+        self.list[spot.block].put_in(spot.offset, entry);
     }
 
-    /// Takes the number at an offset of a block out, and the block too where it had no other and isn't the only one.
+    /// Takes the entry at an offset of a block out, and the block too where it had no other and isn't the only one.
     /// There is room for a copy of it where blocks are shared.
     fn take(&mut self, b: usize, offset: usize)
         requires room { self.old.shared ≡ true → 0 < self.old.room }
         requires block { b < length self.old.blocks }
         requires offset { offset < length (get_or self.old.blocks b []) }
         ensures room { self.old.room ≤ suc self.new.room }
-        ensures numbers { concat self.new.blocks ≡ remove (concat self.old.blocks)
+        ensures entries { joined self.new.blocks ≡ remove (joined self.old.blocks)
             (place_in self.old.blocks b offset) }
         ensures own { self.old.shared ≡ false → self.new.shared ≡ false }
         ensures stays { self.old.shared ≡ false → self.old.room ≤ self.new.room }
@@ -373,15 +376,15 @@ impl Blocks {
         take_from(&mut self.list, b, offset);
     }
 
-    /// Takes the number behind a place out, where there is one. There is room for a copy of its block where blocks are
+    /// Takes the entry behind a place out, where there is one. There is room for a copy of its block where blocks are
     /// shared.
     pub(crate) fn remove(&mut self, spot: Spot)
         requires room { self.old.shared ≡ true → 0 < self.old.room }
         requires spot { IsSpot self.old.blocks spot }
         ensures room { self.old.room ≤ suc self.new.room }
-        ensures some { place_of self.old.blocks spot < length (concat self.old.blocks) →
-            TakesNumber spot self.old self.new }
-        ensures none { length (concat self.old.blocks) ≤ place_of self.old.blocks spot →
+        ensures some { place_of self.old.blocks spot < length (joined self.old.blocks) →
+            TakesEntry spot self.old self.new }
+        ensures none { length (joined self.old.blocks) ≤ place_of self.old.blocks spot →
             self.new ≡ self.old }
         ensures own { self.old.shared ≡ false → self.new.shared ≡ false }
         ensures stays { self.old.shared ≡ false → self.old.room ≤ self.new.room }

@@ -1,54 +1,15 @@
 //! The entries of all cells, in the order of their keys.
 
-ghost use Rattle.std.specs.Prelude.{◌≡◌, ◌<◌, ◌≤◌, ◌^◌, [], length, get_or, IfOk};
-ghost use Rattle.std.specs.Option.{unwrap_or};
+ghost use Rattle.std.specs.Prelude.{◌≡◌, ◌<◌, ◌≤◌, ◌^◌, length, IfOk};
 ghost use Rattle.mls_tree_index.specs.Keys.{key_in};
-ghost use Rattle.mls_tree_index.specs.Entries.{front_of, BeginsWithBytes, fronted, front_cmp, AreEntries, EntriesAscend, is_again};
+ghost use Rattle.mls_tree_index.specs.Entries.{fronted, front_cmp, AreEntries, EntriesAscend, is_again};
 
+use crate::entry::Entry;
 use crate::kind::KeyKind;
 use crate::order::{compare, is_same};
 use mls_tree_cells::Cells;
 use std::alloc::{AllocError, Global};
 use std::cmp::Ordering;
-
-/// A cell with a key: its number, and the front of its key, by which most keys differ.
-#[derive(Clone, Copy)]
-pub(crate) struct Entry {
-    pub(crate) front: u32,
-    pub(crate) number: u32,
-}
-
-/// The byte of a key at a place: 0 past its end.
-fn byte_at(key: &[u8], place: usize) -> u8
-    ensures { result ≡ get_or key.now place 0 }
-{
-    match key.get(place) {
-        Some(byte) => *byte,
-        None => 0,
-    }
-}
-
-/// Reads a key's first four bytes as a number, the first one the highest. Keys whose fronts differ have their order.
-fn read_front(key: &[u8]) -> u32
-    ensures value { result ≡ front_of key.now }
-    ensures bytes { BeginsWithBytes key.now }
-{
-    let first = byte_at(key, 0);
-    let second = byte_at(key, 1);
-    let third = byte_at(key, 2);
-    let fourth = byte_at(key, 3);
-    let high = 256 * u32::from(first) + u32::from(second);
-    65536 * high + (256 * u32::from(third) + u32::from(fourth))
-}
-
-impl Entry {
-    /// Its key.
-    fn key(self, kind: KeyKind, cells: &Cells) -> &[u8]
-        ensures { result.now ≡ unwrap_or (key_in kind cells.now.nodes self.number) [] }
-    {
-        kind.key_in(cells, self.number).unwrap_or(&[])
-    }
-}
 
 /// The order of two entries.
 #[tactic(auto, using(crate::proofs::KeyFronts::then_other, crate::proofs::KeyFronts::then_same))]
@@ -71,8 +32,8 @@ fn list_entries(alloc: Global, kind: KeyKind, cells: &Cells) -> Result<Vec<Entry
     for x in 0..cells.len() {
         let number = x as u32;
         if let Some(key) = kind.key_in(cells, number) {
-            let front = read_front(key);
-            entries.push_reserved(Entry { front, number });
+            let entry = Entry::new(key, number);
+            entries.push_reserved(entry);
         }
     }
     Ok(entries)

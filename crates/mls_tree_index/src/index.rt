@@ -1,4 +1,4 @@
-//! The index: numbers of cells in the order of their keys.
+//! The index: entries of cells in the order of their keys.
 
 ghost use Rattle.std.specs.Prelude.{◌≡◌, ◌+◌, ◌≤◌, ◌^◌, suc, false, length, IfOk, OnOk};
 ghost use Rattle.mls_tree_index.specs.Keys.{IsHolder};
@@ -6,14 +6,16 @@ ghost use Rattle.mls_tree_index.specs.Indexes.{Indexes, SameIndex, AnswersHeld, 
 
 use crate::blocks::Blocks;
 use crate::entries::{is_again, sort_entries};
+use crate::entry::Entry;
 use crate::kind::KeyKind;
 use mls_tree_cells::Cells;
 use std::alloc::{AllocError, Global};
 use std::marker::Model;
 
-/// The numbers of the cells that have a key of one kind, in the order of the keys, and of cells with one key by number.
-/// The keys stay in the cells. The numbers stand in blocks that copies may share, so that a copy of a shared index
-/// copies pointers, and an edit the block that it changes. It keeps count of keys that repeat.
+/// The entries of the cells that have a key of one kind, in the order of the keys, and of cells with one key by number.
+/// The keys stay in the cells, and only their fronts are in entries. The entries stand in blocks that copies may share,
+/// so that a copy of a shared index copies pointers, and an edit the block that it changes. It keeps count of keys that
+/// repeat.
 #[derive(Drop)]
 pub struct Index {
     pub(crate) kind: KeyKind,
@@ -22,14 +24,14 @@ pub struct Index {
 }
 
 impl Model for Index {
-    ghost use Rattle.std.specs.List.{concat};
+    ghost use Rattle.mls_tree_index.specs.Blocks.{joined};
     ghost use Rattle.mls_tree_index.specs.Indexes.{Listing};
 
     ghost Value = { Listing };
 
     ghost view = { λ t. record {
       kind = t.kind;
-      numbers = concat t.blocks.blocks;
+      entries = joined t.blocks.blocks;
       repeats = t.repeats;
       room = t.blocks.room;
       shared = t.blocks.shared;
@@ -45,15 +47,12 @@ impl Index {
         ensures own { IfOk result (λ t. t.shared ≡ false) }
     {
         let entries = sort_entries(alloc, kind, cells)?;
-        let mut numbers = Vec::with_capacity(alloc, entries.len())?;
         let mut repeats = 0usize;
         for place in 0..entries.len() {
             let again = is_again(kind, cells, &entries, place);
             repeats += usize::from(again);
-            let entry = entries[place];
-            numbers.push_reserved(entry.number);
         }
-        let blocks = Blocks::new(alloc, &numbers)?;
+        let blocks = Blocks::new(alloc, &entries)?;
         Ok(Index {
             kind,
             blocks,
@@ -94,8 +93,10 @@ impl Index {
     pub fn holds(&self, cells: &Cells, key: &[u8]) -> bool
         ensures { AnswersHeld self.now cells.now.nodes key.now result }
     {
-        let spot = self.blocks.spot_of(self.kind, cells, key, 0);
-        self.blocks.is_key_at(self.kind, cells, spot, key)
+        let entry = Entry::new(key, 0);
+        let spot = self.blocks.spot_of(self.kind, cells, key, entry);
+        self.blocks
+            .is_key_at(self.kind, cells, spot, key, entry.front)
     }
 
     /// A cell that has this key, where there is one.
@@ -103,12 +104,13 @@ impl Index {
         ensures { Indexes cells.now.nodes self.now
             → IsHolder self.now.kind cells.now.nodes key.now result }
     {
-        let spot = self.blocks.spot_of(self.kind, cells, key, 0);
-        let Some(x) = self.blocks.number_at(spot) else {
+        let entry = Entry::new(key, 0);
+        let spot = self.blocks.spot_of(self.kind, cells, key, entry);
+        let Some(own) = self.blocks.entry_at(spot) else {
             return None;
         };
-        if self.kind.is_key_in(cells, x, key) {
-            Some(x)
+        if own.is_of(self.kind, cells, key, entry.front) {
+            Some(own.number)
         } else {
             None
         }
@@ -126,9 +128,12 @@ impl Index {
         let Some(key) = self.kind.key_in(cells, x) else {
             return;
         };
-        let spot = self.blocks.spot_of(self.kind, cells, key, x);
-        let again = self.blocks.is_beside(self.kind, cells, spot, key);
-        self.blocks.insert(spot, x);
+        let entry = Entry::new(key, x);
+        let spot = self.blocks.spot_of(self.kind, cells, key, entry);
+        let again = self
+            .blocks
+            .is_beside(self.kind, cells, spot, key, entry.front);
+        self.blocks.insert(spot, entry);
         if !again {
             return;
         }
@@ -151,7 +156,8 @@ impl Index {
         let Some(key) = self.kind.key_in(cells, x) else {
             return;
         };
-        let spot = self.blocks.spot_of(self.kind, cells, key, x);
+        let entry = Entry::new(key, x);
+        let spot = self.blocks.spot_of(self.kind, cells, key, entry);
         self.blocks.remove(spot);
         // Without a repeat no other cell has the key.
         if self.repeats == 0 {

@@ -4,9 +4,8 @@ ghost use Rattle.std.specs.Prelude.{◌≡◌};
 ghost use Rattle.std.specs.Option.{option_copied};
 ghost use Rattle.mls_tree_index.specs.Keys.{key_of, key_in, is_key};
 
-use mls_leaf::Node;
 use mls_tree_cells::Cells;
-use mls_tree_slot::Slot;
+use mls_tree_slot::{NodeRef, Slot};
 
 /// A key of a cell.
 #[derive(Clone, Copy, Debug, PartialEq, Eq)]
@@ -23,10 +22,10 @@ impl KeyKind {
         ensures { option_copied result ≡ key_of self cell.now }
     {
         match (self, cell.node()?) {
-            (KeyKind::Encryption, Node::Leaf(leaf)) => Some(leaf.encryption_key.as_slice()),
-            (KeyKind::Encryption, Node::Parent(parent)) => Some(parent.encryption_key()),
-            (KeyKind::Signature, Node::Leaf(leaf)) => Some(leaf.signature_key.as_slice()),
-            (KeyKind::Signature, Node::Parent(_)) => None,
+            (KeyKind::Encryption, NodeRef::Leaf(leaf)) => Some(leaf.encryption_key.as_slice()),
+            (KeyKind::Encryption, NodeRef::Parent(parent)) => Some(parent.encryption_key()),
+            (KeyKind::Signature, NodeRef::Leaf(leaf)) => Some(leaf.signature_key.as_slice()),
+            (KeyKind::Signature, NodeRef::Parent(_)) => None,
         }
     }
 

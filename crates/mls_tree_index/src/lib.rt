@@ -5,6 +5,7 @@ mod beside;
 mod block;
 mod blocks;
 mod entries;
+mod entry;
 mod index;
 mod keys;
 mod kind;

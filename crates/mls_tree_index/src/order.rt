@@ -5,7 +5,9 @@ ghost use Rattle.std.specs.Ordering.{nat_cmp, is_lt};
 ghost use Rattle.std.specs.Cmp.Lexicographic.{pointwise, slice_cmp};
 ghost use Rattle.mls_tree_index.specs.Keys.{key_in};
 ghost use Rattle.mls_tree_index.specs.Order.{entry_at, entry_cmp};
+ghost use Rattle.mls_tree_index.specs.Searches.{is_lower};
 
+use crate::entry::Entry;
 use crate::kind::KeyKind;
 use mls_tree_cells::Cells;
 use std::cmp::Ordering;
@@ -30,13 +32,24 @@ pub(crate) fn is_same(own: &[u8], key: &[u8]) -> bool
     compare(own, key).is_eq()
 }
 
-/// Whether the entry of a cell comes before that of a key and a number.
-pub(crate) fn is_before(kind: KeyKind, cells: &Cells, y: u32, key: &[u8], x: u32) -> bool
-    ensures { result ≡ is_lt (entry_cmp (entry_at (key_in kind cells.now.nodes) y) (key.now, x)) }
+/// Whether an entry comes before that of a key by key, and then by number.
+fn is_key_before(kind: KeyKind, cells: &Cells, own: Entry, key: &[u8], entry: Entry) -> bool
+    ensures { result ≡ is_lt (entry_cmp (entry_at (key_in kind cells.now.nodes) own.number)
+        (key.now, entry.number)) }
 {
-    let own = kind.key_in(cells, y).unwrap_or(&[]);
-    match compare(own, key) {
-        Ordering::Equal => y < x,
+    match compare(own.key(kind, cells), key) {
+        Ordering::Equal => own.number < entry.number,
         order => order.is_lt(),
     }
+}
+
+/// Whether an entry comes before that of a key. Its key is read only where the fronts are the same.
+#[tactic(auto, using(crate::proofs::KeyFronts::lower_other, crate::proofs::KeyFronts::lower_same))]
+pub(crate) fn is_before(kind: KeyKind, cells: &Cells, own: Entry, key: &[u8], entry: Entry) -> bool
+    ensures { result ≡ is_lower kind cells.now.nodes key.now entry own }
+{
+    if own.front != entry.front {
+        return own.front < entry.front;
+    }
+    is_key_before(kind, cells, own, key, entry)
 }

@@ -2,14 +2,36 @@
 
 ghost use Rattle.mls_wire.specs.ReadFaults.{optional_faults};
 ghost use Rattle.mls_wire.specs.Combine.{optional};
+ghost use Rattle.mls_leaf.specs.Faults.{AddsSpelling};
 ghost use Rattle.mls_leaf.specs.ReadFaults.{node_faults};
 ghost use Rattle.mls_leaf.specs.Node.{node};
 ghost use Rattle.mls_leaf.specs.Nonempty.{optional_nonempty};
+ghost use Rattle.mls_tree_slot.specs.Nodes.{lent_node};
 
+use crate::node_ref::NodeRef;
 use crate::slot::Slot;
 use mls_leaf::{Codec, LeafError, Node};
 use mls_wire::{Reader, Writer};
 use std::alloc::Global;
+
+/// Adds the spelling of a node.
+#[tactic(auto, using(mls_leaf::proofs::Codecs::codecs), unfolding(mls_leaf::specs::Node::node))]
+fn write_node(alloc: Global, lent: NodeRef<'_>, writer: &mut Writer) -> Result<(), LeafError>
+    ensures { AddsSpelling node (lent_node lent.entry) writer.old result writer.new }
+{
+    match lent {
+        NodeRef::Leaf(leaf) => {
+            writer.u8(1)?;
+            leaf.write(alloc, writer)?;
+            Ok(())
+        }
+        NodeRef::Parent(parent) => {
+            writer.u8(2)?;
+            parent.write(alloc, writer)?;
+            Ok(())
+        }
+    }
+}
 
 impl Codec for Slot {
     ghost format = { optional node };
@@ -46,7 +68,7 @@ impl Codec for Slot {
             None => writer.u8(0)?,
             Some(node) => {
                 writer.u8(1)?;
-                node.write(alloc, writer)?;
+                write_node(alloc, node, writer)?;
             }
         }
         Ok(())

@@ -2,8 +2,11 @@
 #![tactic(auto)]
 
 mod codec;
+mod content;
+mod node_ref;
 mod shared_nodes;
 mod slot;
 
+pub use node_ref::NodeRef;
 pub use shared_nodes::{SharedLeaf, SharedParent};
 pub use slot::Slot;

@@ -3,8 +3,9 @@
 ghost use Rattle.std.specs.Prelude.{◌≡◌, Some, IfOk};
 ghost use Rattle.mls_leaf.specs.declared.node.Node.TheVariants.{Leaf as in_leaf, Parent as in_parent};
 
-use crate::slot::{Slot, share_node};
-use mls_leaf::{LeafNode, Node, ParentNode};
+use crate::content::Content;
+use crate::slot::Slot;
+use mls_leaf::{LeafNode, ParentNode};
 use std::alloc::{AllocError, Global};
 use std::marker::Model;
 use std::rc::Rc;
@@ -12,39 +13,29 @@ use std::rc::Rc;
 /// A leaf that a slot can take.
 #[derive(Drop)]
 pub struct SharedLeaf {
-    node: Rc<Node>,
+    leaf: Rc<LeafNode>,
 }
 
 impl Model for SharedLeaf {
-    ghost use Rattle.std.specs.Prelude.{◌≡◌};
     ghost use Rattle.mls_leaf.specs.declared.leaf.LeafNode.{LeafNode};
-    ghost use Rattle.mls_leaf.specs.declared.node.Node.TheVariants.{Leaf as in_leaf};
-    ghost use Rattle.mls_tree_slot.specs.SharedNodes.{leaf_or_empty};
 
     ghost Value = { LeafNode };
 
-    ghost view = { λ s. leaf_or_empty s.node.value };
-
-    ghost invariant = { λ s. s.node.value ≡ in_leaf (leaf_or_empty s.node.value) };
+    ghost view = { λ s. s.leaf.value };
 }
 
 /// A parent that a slot can take.
 #[derive(Drop)]
 pub struct SharedParent {
-    node: Rc<Node>,
+    parent: Rc<ParentNode>,
 }
 
 impl Model for SharedParent {
-    ghost use Rattle.std.specs.Prelude.{◌≡◌};
     ghost use Rattle.mls_leaf.specs.Parent.{Parent};
-    ghost use Rattle.mls_leaf.specs.declared.node.Node.TheVariants.{Parent as in_parent};
-    ghost use Rattle.mls_tree_slot.specs.SharedNodes.{parent_or_empty};
 
     ghost Value = { Parent };
 
-    ghost view = { λ s. parent_or_empty s.node.value };
-
-    ghost invariant = { λ s. s.node.value ≡ in_parent (parent_or_empty s.node.value) };
+    ghost view = { λ s. s.parent.value };
 }
 
 impl SharedLeaf {
@@ -52,8 +43,11 @@ impl SharedLeaf {
     pub fn new(alloc: Global, leaf: LeafNode) -> Result<SharedLeaf, AllocError>
         ensures { IfOk result (λ s. s ≡ leaf) }
     {
-        let node = share_node(alloc, Node::Leaf(leaf))?;
-        Ok(SharedLeaf { node })
+        match Rc::new(alloc, leaf) {
+            Ok(leaf) => Ok(SharedLeaf { leaf }),
+            // Want of memory: the place behind the pointer, which fails for nothing else.
+            Err(_) => Err(AllocError),
+        }
     }
 
     /// The slot with it, which takes no memory.
@@ -61,7 +55,7 @@ impl SharedLeaf {
         ensures { result ≡ Some (in_leaf self) }
     {
         Slot {
-            node: Some(self.node),
+            content: Content::Leaf(self.leaf),
         }
     }
 }
@@ -71,18 +65,18 @@ impl SharedParent {
     pub fn new(alloc: Global, parent: ParentNode) -> Result<SharedParent, AllocError>
         ensures { IfOk result (λ s. s ≡ parent) }
     {
-        let node = share_node(alloc, Node::Parent(parent))?;
-        Ok(SharedParent { node })
+        match Rc::new(alloc, parent) {
+            Ok(parent) => Ok(SharedParent { parent }),
+            // Want of memory: the place behind the pointer, which fails for nothing else.
+            Err(_) => Err(AllocError),
+        }
     }
 
     /// The parent.
     pub fn parent(&self) -> &ParentNode
         ensures { result.now ≡ self.now }
     {
-        match &*self.node {
-            Node::Parent(parent) => parent,
-            Node::Leaf(_) => unreachable!(),
-        }
+        self.parent.as_ref()
     }
 
     /// The slot with it, which takes no memory.
@@ -90,7 +84,7 @@ impl SharedParent {
         ensures { result ≡ Some (in_parent self) }
     {
         Slot {
-            node: Some(self.node),
+            content: Content::Parent(self.parent),
         }
     }
 }

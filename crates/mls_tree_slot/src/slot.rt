@@ -1,39 +1,32 @@
 //! A place of a tree.
 
 ghost use Rattle.std.specs.Prelude.{◌≡◌, Some, None, is_some, IfOk};
-ghost use Rattle.std.specs.Option.{option_copied};
+ghost use Rattle.std.specs.Option.{option_map};
+ghost use Rattle.mls_tree_slot.specs.Nodes.{lent_node};
 
+use crate::content::Content;
+use crate::node_ref::NodeRef;
+use crate::shared_nodes::{SharedLeaf, SharedParent};
 use mls_leaf::Node;
 use std::alloc::{AllocError, Global};
 use std::marker::Model;
-use std::rc::Rc;
 
 /// A place of a ratchet tree: blank, or a node that copies of the tree may share. To its callers it is the node itself,
 /// where there is one. A copy shares the node and takes no memory of its own.
 #[derive(Debug, Drop)]
 pub struct Slot {
-    pub(crate) node: Option<Rc<Node>>,
+    pub(crate) content: Content,
 }
 
 impl Model for Slot {
     ghost use Rattle.std.specs.Prelude.{Option};
     ghost use Rattle.mls_leaf.specs.declared.node.Node.{Node};
-    ghost use Rattle.std.specs.Option.{option_map};
 
     ghost Value = { Option Node };
 
-    ghost view = { λ s. option_map (λ shared. shared.value) s.node };
-}
+    ghost use Rattle.mls_tree_slot.specs.Nodes.{held_node};
 
-/// Puts a node behind a pointer that places share.
-pub(crate) fn share_node(alloc: Global, node: Node) -> Result<Rc<Node>, AllocError>
-    ensures { IfOk result (λ shared. shared.value ≡ node) }
-{
-    match Rc::new(alloc, node) {
-        Ok(shared) => Ok(shared),
-        // Want of memory: the place behind the pointer, which fails for nothing else.
-        Err(_) => Err(AllocError),
-    }
+    ghost view = { λ s. held_node s.content };
 }
 
 impl Slot {
@@ -41,24 +34,29 @@ impl Slot {
     pub fn blank() -> Slot
         ensures { result ≡ None }
     {
-        Slot { node: None }
+        Slot {
+            content: Content::Blank,
+        }
     }
 
     /// A place with a node.
     pub fn of(alloc: Global, node: Node) -> Result<Slot, AllocError>
         ensures { IfOk result (λ s. s ≡ Some node) }
     {
-        let shared = share_node(alloc, node)?;
-        Ok(Slot { node: Some(shared) })
+        match node {
+            Node::Leaf(leaf) => Ok(SharedLeaf::new(alloc, leaf)?.into_slot()),
+            Node::Parent(parent) => Ok(SharedParent::new(alloc, parent)?.into_slot()),
+        }
     }
 
     /// The node in it.
-    pub fn node(&self) -> Option<&Node>
-        ensures { option_copied result ≡ self.now }
+    pub fn node(&self) -> Option<NodeRef<'_>>
+        ensures { option_map lent_node result ≡ self.now }
     {
-        match &self.node {
-            Some(shared) => Some(shared.as_ref()),
-            None => None,
+        match &self.content {
+            Content::Blank => None,
+            Content::Leaf(leaf) => Some(NodeRef::Leaf(leaf.as_ref())),
+            Content::Parent(parent) => Some(NodeRef::Parent(parent.as_ref())),
         }
     }
 
@@ -66,7 +64,10 @@ impl Slot {
     pub fn is_taken(&self) -> bool
         ensures { result ≡ is_some self.now }
     {
-        self.node.is_some()
+        match &self.content {
+            Content::Blank => false,
+            Content::Leaf(_) | Content::Parent(_) => true,
+        }
     }
 }
 
@@ -77,11 +78,14 @@ impl Clone for Slot {
     ghost is_infallible = { λ s. s ≡ None };
 
     fn clone(&self) -> Result<Slot, AllocError> {
-        match &self.node {
-            Some(shared) => Ok(Slot {
-                node: Some(shared.clone()?),
+        match &self.content {
+            Content::Blank => Ok(Slot::blank()),
+            Content::Leaf(leaf) => Ok(Slot {
+                content: Content::Leaf(leaf.clone()?),
             }),
-            None => Ok(Slot { node: None }),
+            Content::Parent(parent) => Ok(Slot {
+                content: Content::Parent(parent.clone()?),
+            }),
         }
     }
 }

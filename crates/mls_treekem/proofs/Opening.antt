@@ -1,5 +1,6 @@
 -- What is opened along a committer's way, as code goes over it.
-use Rattle.std.proofs.Common.{◌≡◌, ℕ, suc, ◌+◌, ◌-◌, ◌*◌, ◌^◌, ◌<◌, ◌≤◌, Bool, true, false, not, ◌&&◌, ◌==◌, nat_lt, nat_le, if◌then◌else◌, List, [], ◌∷◌, ◌++◌, length, map, reverse, drop, get_or, codes, Option, Some, None, Result, Ok, Err, refl, sym, subst, ◌∙◌, ap, ap₂, inl, inr, arith, drop-cons, eq-eqb, ne_eqb}
+use Rattle.std.proofs.Common.{◌≡◌, ℕ, zero, suc, ◌+◌, ◌-◌, ◌*◌, ◌^◌, ◌<◌, ◌≤◌, Bool, true, false, not, ◌&&◌, ◌==◌, nat_lt, nat_le, if◌then◌else◌, List, [], ◌∷◌, ◌++◌, length, map, reverse, drop, get_or, codes, Option, Some, None, Result, Ok, Err, refl, sym, subst, ◌∙◌, ap, ap₂, inl, inr, arith, drop-cons, eq-eqb, ne_eqb}
+use Rattle.std.specs.List.{slice_get}
 use Rattle.std.specs.Option.{option_map}
 use Rattle.std.specs.Str.{bytes_eq}
 use Rattle.std.proofs.lemmas.Bool.{cond-true, cond-false, cases_lt, true≢false, and_parts}
@@ -8,6 +9,8 @@ use Rattle.mls_wire.specs.Checks.{require_some, Answers, AnswersOutright}
 use Rattle.mls_wire.specs.Reading.{◌>>=◌}
 use Rattle.mls_wire.specs.Laws.{bind_ok}
 use Rattle.mls_types.specs.declared.update_path.HpkeCiphertext.{HpkeCiphertext}
+use Rattle.mls_types.specs.declared.ciphertexts.CiphertextRef.{CiphertextRef}
+use Rattle.mls_types.specs.Ciphertexts.{ciphertext_lent}
 use Rattle.mls_types.specs.declared.update_path.UpdatePathNode.{UpdatePathNode}
 use Rattle.mls_suite.specs.Crypto.{Crypto}
 use Rattle.mls_suite.specs.Labels.{decrypt_with_label}
@@ -141,6 +144,11 @@ module _ {A : Type 0} (f : A → List ℕ) (c : Crypto) (context k : List ℕ) (
 
 -- ---- the first node whose key is held
 
+no_ciphertexts : (c : Crypto) (context : List ℕ) (f : ℕ → Option (List ℕ)) (ds : List ℕ) → open_first c context f ds [] ≡ Err 32
+unfolding open_first
+no_ciphertexts c context f [] = refl
+no_ciphertexts c context f (d ∷ ds) = refl
+
 module _ (c : Crypto) (context : List ℕ) (f : ℕ → Option (List ℕ)) (us : List ℕ) (d : ℕ) (ds : List ℕ) where
   pub first_added : (xs : List HpkeCiphertext) → has (leaf_numbers us) d ≡ true → open_first c context f (less (leaf_numbers us) (d ∷ ds)) xs ≡ open_first c context f (less (leaf_numbers us) ds) xs
   first_added xs e = rw e refl
@@ -156,18 +164,14 @@ module _ (c : Crypto) (context : List ℕ) (f : ℕ → Option (List ℕ)) (us :
   unfolding open_first
   first_held xs x ys k e is key = ap₂ (λ ns zs. open_first c context f ns zs) (kept e) is ∙ rw key refl
 
-  pub first_other : (xs : List HpkeCiphertext) (x : HpkeCiphertext) (ys : List HpkeCiphertext) → has (leaf_numbers us) d ≡ false → xs ≡ x ∷ ys → f d ≡ None → open_first c context f (less (leaf_numbers us) (d ∷ ds)) xs ≡ open_first c context f (less (leaf_numbers us) ds) ys
+  pub first_other : (xs : List HpkeCiphertext) → has (leaf_numbers us) d ≡ false → f d ≡ None → open_first c context f (less (leaf_numbers us) (d ∷ ds)) xs ≡ open_first c context f (less (leaf_numbers us) ds) (drop 1 xs)
   unfolding open_first
-  first_other xs x ys e is key = ap₂ (λ ns zs. open_first c context f ns zs) (kept e) is ∙ rw key refl
+  first_other [] e key = ap (λ ns. open_first c context f ns []) (kept e) ∙ sym (no_ciphertexts c context f (less (leaf_numbers us) ds))
+  first_other (x ∷ xs) e key = ap (λ ns. open_first c context f ns (x ∷ xs)) (kept e) ∙ rw key refl
 
 pub first_none : (c : Crypto) (context : List ℕ) (f : ℕ → Option (List ℕ)) (xs : List HpkeCiphertext) → open_first c context f [] xs ≡ Err 32
 unfolding open_first
 first_none c context f xs = refl
-
-no_ciphertexts : (c : Crypto) (context : List ℕ) (f : ℕ → Option (List ℕ)) (ds : List ℕ) → open_first c context f ds [] ≡ Err 32
-unfolding open_first
-no_ciphertexts c context f [] = refl
-no_ciphertexts c context f (d ∷ ds) = refl
 
 -- from some node on, with the ciphertexts that are left, the same is opened as from the first
 abbrev pub SameFirst : Crypto → List ℕ → ℕ → ℕ → PrivateKeys → List ℕ → List ℕ → List HpkeCiphertext → ℕ → List HpkeCiphertext → Type 0
@@ -191,14 +195,35 @@ module _ (c : Crypto) (context : List ℕ) (h b : ℕ) (p : PrivateKeys) (added 
     pub same_added : has (leaf_numbers added) (get_or nodes n 0) ≡ true → SameFirst c context h b p added nodes xs (n + 1) ys
     same_added is t e = here t e ∙ first_added c context (key_of b t p) added (get_or nodes n 0) (drop (n + 1) nodes) ys is
 
-    pub same_other : (x : HpkeCiphertext) (zs : List HpkeCiphertext) (key : Option (List ℕ)) → has (leaf_numbers added) (get_or nodes n 0) ≡ false → ys ≡ x ∷ zs → IsKeyOf h b p (get_or nodes n 0) key → key ≡ None → SameFirst c context h b p added nodes xs (n + 1) zs
-    same_other x zs key isnt split is none t e = here t e ∙ first_other c context (key_of b t p) added (get_or nodes n 0) (drop (n + 1) nodes) ys x zs isnt split (sym (is t e) ∙ none)
+    pub same_other : (key : Option (List ℕ)) → has (leaf_numbers added) (get_or nodes n 0) ≡ false → IsKeyOf h b p (get_or nodes n 0) key → key ≡ None → SameFirst c context h b p added nodes xs (n + 1) (drop 1 ys)
+    same_other key isnt is none t e = here t e ∙ first_other c context (key_of b t p) added (get_or nodes n 0) (drop (n + 1) nodes) ys isnt (sym (is t e) ∙ none)
 
     pub same_missing : has (leaf_numbers added) (get_or nodes n 0) ≡ false → ys ≡ [] → (t : Term) → is_perfect h t ≡ true → open_first c context (key_of b t p) (less (leaf_numbers added) nodes) xs ≡ Err 32
     same_missing isnt none t e = here t e ∙ first_missing c context (key_of b t p) added (get_or nodes n 0) (drop (n + 1) nodes) ys isnt none
 
     pub same_held : (x : HpkeCiphertext) (zs : List HpkeCiphertext) (key : Option (List ℕ)) (k : List ℕ) → has (leaf_numbers added) (get_or nodes n 0) ≡ false → ys ≡ x ∷ zs → IsKeyOf h b p (get_or nodes n 0) key → key ≡ Some k → (t : Term) → is_perfect h t ≡ true → open_first c context (key_of b t p) (less (leaf_numbers added) nodes) xs ≡ secret_in c context k x
     same_held x zs key k isnt split is held t e = here t e ∙ first_held c context (key_of b t p) added (get_or nodes n 0) (drop (n + 1) nodes) ys x zs k isnt split (sym (is t e) ∙ held)
+
+-- ---- the ciphertext with a number
+
+pub from_number : (xs : List HpkeCiphertext) (m : ℕ) (x : HpkeCiphertext) → slice_get xs m ≡ Some x → drop m xs ≡ x ∷ drop 1 (drop m xs)
+from_number [] zero x e = absurd cc
+from_number [] (suc m) x e = absurd cc
+from_number (y ∷ ys) zero x e = let same : y ≡ x = cc in ap (λ (z : HpkeCiphertext). z ∷ ys) same
+from_number (y ∷ ys) (suc m) x e = from_number ys m x e
+
+pub none_from : (xs : List HpkeCiphertext) (m : ℕ) → slice_get xs m ≡ None → drop m xs ≡ []
+none_from [] zero e = refl
+none_from [] (suc m) e = refl
+none_from (y ∷ ys) zero e = absurd cc
+none_from (y ∷ ys) (suc m) e = none_from ys m e
+
+-- what is lent with a number
+pub lent_is : (o : Option CiphertextRef) (xs : List HpkeCiphertext) (m : ℕ) (x : CiphertextRef) → option_map ciphertext_lent o ≡ slice_get xs m → o ≡ Some x → slice_get xs m ≡ Some (ciphertext_lent x)
+lent_is o xs m x e is = sym e ∙ ap (option_map ciphertext_lent) is
+
+pub lent_none : (o : Option CiphertextRef) (xs : List HpkeCiphertext) (m : ℕ) → option_map ciphertext_lent o ≡ slice_get xs m → o ≡ None → slice_get xs m ≡ None
+lent_none o xs m e is = sym e ∙ ap (option_map ciphertext_lent) is
 
 -- ---- keys by their height
 

@@ -2,6 +2,7 @@
 
 ghost use Rattle.std.specs.Prelude.{◌≡◌, ◌+◌, ◌^◌, ◌<◌, ◌≤◌, not, length, reverse, IfOk, OnErr};
 ghost use Rattle.mls_wire.specs.Checks.{AnswersOutright};
+ghost use Rattle.mls_types.specs.Ciphertexts.{ciphertext_lent};
 ghost use Rattle.mls_tree_model.specs.Places.{resolution_at};
 ghost use Rattle.mls_tree_model.specs.Resolution.{is_empty};
 ghost use Rattle.mls_tree.specs.Tree.{term};
@@ -18,7 +19,7 @@ use mls_kdf::Secret;
 use mls_suite::{OutOfMemory, Suite, decrypt_with_label};
 use mls_tree::PublicTree;
 use mls_tree_array::is_leaf_among;
-use mls_types::{HpkeCiphertext, UpdatePathNode};
+use mls_types::{CiphertextRef, Ciphertexts, UpdatePathNode};
 use std::alloc::Global;
 
 /// The path secret that these bytes are: `SecretLength` (33) unless there are 32.
@@ -35,19 +36,20 @@ fn secret_of(bytes: &[u8]) -> Result<Secret, TreeKemError>
 fn open_secret<S: Suite>(
     alloc: Global,
     key: &Secret,
-    sealed: &HpkeCiphertext,
+    sealed: CiphertextRef<'_>,
     context: &[u8],
 ) -> Result<Secret, TreeKemError>
     requires { length context.now < 2 ^ 30 }
-    ensures { AnswersValue (secret_in S.crypto context.now key.now sealed.now) result }
+    ensures { AnswersValue
+        (secret_in S.crypto context.now key.now (ciphertext_lent sealed.entry)) result }
 {
     let opened = decrypt_with_label::<S>(
         alloc,
         key,
         "UpdatePathNode",
         context,
-        sealed.kem_output.as_slice(),
-        sealed.ciphertext.as_slice(),
+        sealed.kem_output,
+        sealed.ciphertext,
     )?;
     match opened {
         Some(bytes) => secret_of(&bytes),
@@ -125,7 +127,7 @@ impl PrivatePath {
         first: u32,
         nodes: &[u64],
         added: &[u32],
-        ciphertexts: &[HpkeCiphertext],
+        ciphertexts: &Ciphertexts,
         context: &[u8],
     ) -> Result<Secret, TreeKemError>
         requires context { length context.now < 2 ^ 30 }
@@ -134,18 +136,18 @@ impl PrivatePath {
             ciphertexts.now result }
     {
         let alloc = *self.above.allocator();
-        let mut sealed = ciphertexts;
+        let mut number = 0;
         for node in nodes {
             if is_leaf_among(added, *node) {
                 continue;
             }
-            let Some((ciphertext, others)) = sealed.split_first() else {
-                return Err(TreeKemError::OpenFailed);
-            };
             if let Some(key) = self.key_of(height, first as u64, *node) {
-                return open_secret::<S>(alloc, &key, ciphertext, context);
+                let Some(sealed) = ciphertexts.get(number) else {
+                    return Err(TreeKemError::OpenFailed);
+                };
+                return open_secret::<S>(alloc, &key, sealed, context);
             }
-            sealed = others;
+            number += 1;
         }
         Err(TreeKemError::OpenFailed)
     }
@@ -182,13 +184,12 @@ impl PrivatePath {
         };
         let nodes = tree.resolution(place.beside)?;
         let above = self.keys_up_to(height)?;
-        let ciphertexts = node.ciphertexts.as_slice();
         let secret = self.open_first::<S>(
             height,
             place.first,
             &nodes,
             added,
-            ciphertexts,
+            &node.ciphertexts,
             context,
         )?;
         Ok(Climb { secret, above })

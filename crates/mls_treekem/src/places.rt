@@ -1,14 +1,16 @@
 //! The parents over a leaf of the public tree, by their numbers.
 
 ghost use Rattle.std.specs.Prelude.{◌≡◌, ◌+◌, ◌-◌, ◌*◌, ◌^◌, ◌<◌, ◌≤◌, ◌++◌, is_some, IfOk, OnOk};
-ghost use Rattle.std.specs.Option.{option_copied};
+ghost use Rattle.std.specs.Option.{option_copied, option_map};
+ghost use Rattle.mls_tree_slot.specs.Nodes.{lent_node};
 ghost use Rattle.mls_tree_model.specs.Arrays.{parent_in};
 ghost use Rattle.mls_tree.specs.Tree.{term};
 ghost use Rattle.mls_treekem.specs.Place.{places_from, step_of, IsWay};
 
-use mls_leaf::{Node, ParentNode};
+use mls_leaf::ParentNode;
 use mls_suite::OutOfMemory;
 use mls_tree::PublicTree;
+use mls_tree_slot::NodeRef;
 use std::alloc::Global;
 
 /// A parent over a leaf.
@@ -81,11 +83,11 @@ pub(crate) fn parents_over(
 }
 
 /// The parent at a node: None where it is blank or a leaf.
-pub(crate) fn parent_in(node: Option<&Node>) -> Option<&ParentNode>
-    ensures { option_copied result ≡ parent_in (option_copied node.entry) }
+pub(crate) fn parent_in(node: Option<NodeRef<'_>>) -> Option<&ParentNode>
+    ensures { option_copied result ≡ parent_in (option_map lent_node node.entry) }
 {
     match node {
-        Some(Node::Parent(parent)) => Some(parent),
+        Some(NodeRef::Parent(parent)) => Some(parent),
         _ => None,
     }
 }

@@ -1,7 +1,8 @@
 //! A commit's path, sealed to those who need it (RFC 9420, 7.5 and 7.6).
 
 ghost use Rattle.std.specs.Prelude.{◌≡◌, ℕ, ◌<◌, ◌^◌, ◌%◌, length, IfOk, IfErr};
-ghost use Rattle.std.specs.Option.{option_copied};
+ghost use Rattle.std.specs.Option.{option_copied, option_map};
+ghost use Rattle.mls_tree_slot.specs.Nodes.{lent_node};
 ghost use Rattle.mls_tree.specs.Tree.{term};
 ghost use Rattle.mls_treekem.specs.NodeKeys.{encryption_key_of};
 ghost use Rattle.mls_treekem.specs.Faults.{IsMemoryOrKey};
@@ -12,11 +13,12 @@ ghost use Rattle.mls_treekem_model.specs.Seeds.{seal_count_of};
 use crate::places::{Place, parents_over};
 use crate::{PathSecrets, TreeKemError, seal_seed_of};
 use mls_kdf::{HmacKey, Secret};
-use mls_leaf::{Bytes, Items, Node};
+use mls_leaf::Bytes;
 use mls_suite::{Suite, encrypt_with_label};
 use mls_tree::PublicTree;
 use mls_tree_array::is_leaf_among;
-use mls_types::{HpkeCiphertext, UpdatePathNode};
+use mls_tree_slot::NodeRef;
+use mls_types::{Ciphertexts, HpkeCiphertext, UpdatePathNode};
 use std::alloc::Global;
 
 /// The low 32 bits of a number.
@@ -33,18 +35,18 @@ pub fn seal_count_of(nodes: &[UpdatePathNode]) -> u32
 {
     let mut count: u32 = 0;
     for node in nodes {
-        count = count.wrapping_add(low_bits(node.ciphertexts.as_slice().len()));
+        count = count.wrapping_add(low_bits(node.ciphertexts.len()));
     }
     count
 }
 
 /// The encryption key of what stands at a node.
-fn encryption_key_of(node: Option<&Node>) -> Option<&[u8]>
-    ensures { option_copied result ≡ encryption_key_of (option_copied node.entry) }
+fn encryption_key_of(node: Option<NodeRef<'_>>) -> Option<&[u8]>
+    ensures { option_copied result ≡ encryption_key_of (option_map lent_node node.entry) }
 {
     match node {
-        Some(Node::Leaf(leaf)) => Some(leaf.encryption_key.as_slice()),
-        Some(Node::Parent(parent)) => Some(parent.encryption_key()),
+        Some(NodeRef::Leaf(leaf)) => Some(leaf.encryption_key.as_slice()),
+        Some(NodeRef::Parent(parent)) => Some(parent.encryption_key()),
         None => None,
     }
 }
@@ -153,7 +155,7 @@ impl Sealer<'_, '_> {
         let key = Vec::from_slice(alloc, &pair.pk)?;
         Ok(UpdatePathNode {
             encryption_key: Bytes::from_vec(key),
-            ciphertexts: Items::from_vec(ciphertexts),
+            ciphertexts: Ciphertexts::from_vec(ciphertexts),
         })
     }
 

@@ -1,3 +1,4 @@
+pub mod CiphertextLaws
 pub mod SignedLaws
 pub mod SignedParts
 pub mod GroupInfoLaws

@@ -80,7 +80,7 @@ fn check_extensions(reader: &mut Reader<'_>) -> Result<(), LeafError>
 }
 
 /// Adds the extensions of a group info.
-#[tactic(auto, using(mls_leaf::proofs::Codecs::codecs), unfolding(crate::specs::GroupInfo::group_info_extensions))]
+#[tactic(auto, using(mls_wire::proofs::Started::started, mls_leaf::proofs::Codecs::codecs), unfolding(crate::specs::GroupInfo::group_info_extensions))]
 fn write_extensions(
     ratchet_tree: &Option<RatchetTree>,
     alloc: Global,
@@ -92,12 +92,12 @@ fn write_extensions(
         writer.opaque(&[])?;
         return Ok(());
     };
-    let mut data = Writer::new(alloc);
-    tree.write(alloc, &mut data)?;
-    let mut content = Writer::new(alloc);
-    content.u16(RATCHET_TREE_EXTENSION)?;
-    content.vector(&data)?;
-    writer.vector(&content)?;
+    let content = writer.start_vector()?;
+    writer.u16(RATCHET_TREE_EXTENSION)?;
+    let data = writer.start_vector()?;
+    tree.write(alloc, writer)?;
+    writer.end_vector(data)?;
+    writer.end_vector(content)?;
     Ok(())
 }
 

@@ -1,14 +1,16 @@
 //! Update paths (RFC 9420, 7.6).
 
+ghost use Rattle.std.specs.Prelude.{◌≡◌};
 ghost use Rattle.mls_types.specs.UpdatePath.{hpke_ciphertext, update_path_node, update_path, hpke_ciphertext_nonempty, update_path_node_nonempty, update_path_nonempty};
 ghost use Rattle.mls_types.specs.GroupReadFaults.{hpke_ciphertext_faults, update_path_node_faults, update_path_faults};
 
+use crate::ciphertexts::Ciphertexts;
 use mls_leaf::{Bytes, Codec, Items, LeafError, LeafNode};
 use mls_wire::{Reader, Writer};
-use std::alloc::Global;
+use std::alloc::{AllocError, Global};
 
 /// A text sealed to a public key (RFC 9420, 7.6).
-#[derive(Debug, Clone, Drop)]
+#[derive(Debug, Drop)]
 pub struct HpkeCiphertext {
     /// What the key encapsulation puts out.
     pub kem_output: Bytes,
@@ -22,7 +24,7 @@ pub struct UpdatePathNode {
     /// The node's new public key.
     pub encryption_key: Bytes,
     /// The path secret, sealed to each entry of the copath child's resolution.
-    pub ciphertexts: Items<HpkeCiphertext>,
+    pub ciphertexts: Ciphertexts,
 }
 
 /// What a committer sends to renew its direct path (RFC 9420, 7.6).
@@ -32,6 +34,17 @@ pub struct UpdatePath {
     pub leaf_node: LeafNode,
     /// The nodes of its filtered direct path, lowest first.
     pub nodes: Items<UpdatePathNode>,
+}
+
+impl Clone for HpkeCiphertext {
+    ghost is_clone = { λ v w. w ≡ v };
+
+    fn clone(&self) -> Result<HpkeCiphertext, AllocError> {
+        Ok(HpkeCiphertext {
+            kem_output: self.kem_output.clone()?,
+            ciphertext: self.ciphertext.clone()?,
+        })
+    }
 }
 
 impl Codec for HpkeCiphertext {
@@ -76,7 +89,7 @@ impl Codec for UpdatePathNode {
     #[tactic(auto, using(mls_leaf::proofs::Codecs::codecs), unfolding(crate::specs::UpdatePath::update_path_node))]
     fn read(alloc: Global, reader: &mut Reader<'_>) -> Result<UpdatePathNode, LeafError> {
         let encryption_key = Bytes::read(alloc, reader)?;
-        let ciphertexts = Items::<HpkeCiphertext>::read(alloc, reader)?;
+        let ciphertexts = Ciphertexts::read(alloc, reader)?;
         Ok(UpdatePathNode {
             encryption_key,
             ciphertexts,
@@ -86,7 +99,7 @@ impl Codec for UpdatePathNode {
     #[tactic(auto, using(mls_leaf::proofs::Codecs::codecs), unfolding(crate::specs::UpdatePath::update_path_node))]
     fn check(reader: &mut Reader<'_>) -> Result<(), LeafError> {
         Bytes::check(reader)?;
-        Items::<HpkeCiphertext>::check(reader)?;
+        Ciphertexts::check(reader)?;
         Ok(())
     }
 

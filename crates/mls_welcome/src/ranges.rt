@@ -7,10 +7,11 @@ ghost use Rattle.mls_wire.specs.Combine.{optional};
 ghost use Rattle.mls_leaf.specs.Leaf.{leaf_node, leaf_source, capabilities};
 ghost use Rattle.mls_leaf.specs.Node.{node};
 ghost use Rattle.mls_leaf.specs.ParentNode.{parent_node};
+ghost use Rattle.mls_tree_slot.specs.Nodes.{lent_node};
 ghost use Rattle.mls_public_group.specs.MessageLimit.{FitsIfShort};
 
-use mls_leaf::{Capabilities, LeafNode, LeafSource, Node, ParentNode};
-use mls_tree_slot::Slot;
+use mls_leaf::{Capabilities, LeafNode, LeafSource, ParentNode};
+use mls_tree_slot::{NodeRef, Slot};
 
 /// Numbers of 16 bits.
 fn know_shorts(numbers: &[u16])
@@ -61,12 +62,12 @@ fn know_parent(parent: &ParentNode)
     know_indices(parent.unmerged_leaves());
 }
 
-fn know_node(taken: &Node)
-    ensures { FitsIfShort node taken.now }
+fn know_node(taken: NodeRef<'_>)
+    ensures { FitsIfShort node (lent_node taken.entry) }
 {
     match taken {
-        Node::Leaf(leaf) => know_leaf(leaf),
-        Node::Parent(parent) => know_parent(parent),
+        NodeRef::Leaf(leaf) => know_leaf(leaf),
+        NodeRef::Parent(parent) => know_parent(parent),
     }
 }
 

@@ -2,4 +2,5 @@ pub mod CheckLaws
 pub mod Combine
 pub mod CombineLaws
 pub mod LawsLemmas
+pub mod Started
 mod Names

@@ -1,8 +1,8 @@
 //! What the rows of tests ask of a tree. These calls promise nothing, and answer numbers: 1 stands for true.
 
 use crate::rows::edits::number;
-use mls_leaf::Node;
 use mls_tree::{PublicTree, TreeError};
+use mls_tree_slot::NodeRef;
 use std::alloc::{AllocError, Global};
 
 /// Two numbers.
@@ -92,7 +92,7 @@ pub(crate) fn parent_hash_length(
     x: u32,
 ) -> Result<Vec<u64>, TreeError> {
     match tree.node(x) {
-        Some(Node::Parent(parent)) => number(alloc, parent.parent_hash().len() as u64),
+        Some(NodeRef::Parent(parent)) => number(alloc, parent.parent_hash().len() as u64),
         _ => Ok(Vec::new(alloc)),
     }
 }

@@ -1,11 +1,11 @@
 use Rattle.std.proofs.Common.{◌≡◌, ◌+◌, ◌-◌, [], get_or, length, refl, sym, ◌∙◌, ap, subst, arith, add-one}
-use Rattle.std.specs.List.{All, concat}
+use Rattle.std.specs.List.{All}
 use Rattle.std.specs.Vec.{vec_len}
 use Rattle.std.proofs.lemmas.List.Elements.{All-take}
 use Rattle.mls_tree_index.specs.declared.blocks.Spot.{Spot}
 use Rattle.mls_tree_index.specs.Block.{IsSpare}
-use Rattle.mls_tree_index.specs.Blocks.{AreBlocks, IsOpenAt, blocks_of, place_in, place_of}
-use Rattle.mls_tree_index.proofs.BlockLaws.{count_of, place_here, read_at, split_blocks, split_here, split_numbers, split_there, place_there}
+use Rattle.mls_tree_index.specs.Blocks.{AreBlocks, IsOpenAt, blocks_of, joined, place_in, place_of}
+use Rattle.mls_tree_index.proofs.BlockLaws.{count_of, place_here, read_at, split_blocks, split_here, split_entries, split_there, place_there}
 use Rattle.mls_tree_index.proofs.RoomLaws.{least_at}
 use Rattle.mls_tree_index.proofs.blocks.make_way.Goals as goal
 
@@ -15,9 +15,9 @@ returns-in_default-clause-spot c =
     let b = c.args.spot.block in
     let lt = c.requires.spot.block in
     let count = count_of vs in
-    let size = ap length (c.numbers.ensures.numbers ∙ read_at vs b c.index.result.now (omega arith) c.index.ensures) in
-    let few = c.numbers.ensures.few in
-    let ge = c.if-numbers-lt-BLOCK_SIZE.false in
+    let size = ap length (c.entries.ensures.entries ∙ read_at vs b c.index.result.now (omega arith) c.index.ensures) in
+    let few = c.entries.ensures.few in
+    let ge = c.if-entries-lt-BLOCK_SIZE.false in
     let full : length (get_or (blocks_of vs) b []) ≡ 512 = omega arith in
     let least = least_at (blocks_of vs) b lt in
     let some = c.requires.room in
@@ -30,9 +30,9 @@ returns-then-spot-le-HALF_SIZE-clause-free c =
     let b = c.args.spot.block in
     let lt = c.requires.spot.block in
     let count = count_of vs in
-    let size = ap length (c.numbers.ensures.numbers ∙ read_at vs b c.index.result.now (omega arith) c.index.ensures) in
-    let few = c.numbers.ensures.few in
-    let ge = c.if-numbers-lt-BLOCK_SIZE.false in
+    let size = ap length (c.entries.ensures.entries ∙ read_at vs b c.index.result.now (omega arith) c.index.ensures) in
+    let few = c.entries.ensures.few in
+    let ge = c.if-entries-lt-BLOCK_SIZE.false in
     let full : length (get_or (blocks_of vs) b []) ≡ 512 = omega arith in
     let least = least_at (blocks_of vs) b lt in
     let less = c.pop.ensures.cases in
@@ -45,9 +45,9 @@ returns-clause-free c =
     let b = c.args.spot.block in
     let lt = c.requires.spot.block in
     let count = count_of vs in
-    let size = ap length (c.numbers.ensures.numbers ∙ read_at vs b c.index.result.now (omega arith) c.index.ensures) in
-    let few = c.numbers.ensures.few in
-    let ge = c.if-numbers-lt-BLOCK_SIZE.false in
+    let size = ap length (c.entries.ensures.entries ∙ read_at vs b c.index.result.now (omega arith) c.index.ensures) in
+    let few = c.entries.ensures.few in
+    let ge = c.if-entries-lt-BLOCK_SIZE.false in
     let full : length (get_or (blocks_of vs) b []) ≡ 512 = omega arith in
     let least = least_at (blocks_of vs) b lt in
     let less = c.pop.ensures.cases in
@@ -60,9 +60,9 @@ returns-then-spot-le-HALF_SIZE-clause-kept c =
     let b = c.args.spot.block in
     let lt = c.requires.spot.block in
     let count = count_of vs in
-    let size = ap length (c.numbers.ensures.numbers ∙ read_at vs b c.index.result.now (omega arith) c.index.ensures) in
-    let few = c.numbers.ensures.few in
-    let ge = c.if-numbers-lt-BLOCK_SIZE.false in
+    let size = ap length (c.entries.ensures.entries ∙ read_at vs b c.index.result.now (omega arith) c.index.ensures) in
+    let few = c.entries.ensures.few in
+    let ge = c.if-entries-lt-BLOCK_SIZE.false in
     let full : length (get_or (blocks_of vs) b []) ≡ 512 = omega arith in
     let kept = c.requires.kept in
     let long = c.split_block.ensures.len in
@@ -77,17 +77,17 @@ returns-then-spot-le-HALF_SIZE-clause-kept c =
       room = omega arith;
     }
 
-pub returns-then-spot-le-HALF_SIZE-clause-numbers : goal.returns-then-spot-le-HALF_SIZE-clause-numbers
-returns-then-spot-le-HALF_SIZE-clause-numbers c =
+pub returns-then-spot-le-HALF_SIZE-clause-entries : goal.returns-then-spot-le-HALF_SIZE-clause-entries
+returns-then-spot-le-HALF_SIZE-clause-entries c =
     let vs = c.args.list.now.items in
     let b = c.args.spot.block in
     let lt = c.requires.spot.block in
     let count = count_of vs in
-    let size = ap length (c.numbers.ensures.numbers ∙ read_at vs b c.index.result.now (omega arith) c.index.ensures) in
-    let few = c.numbers.ensures.few in
-    let ge = c.if-numbers-lt-BLOCK_SIZE.false in
+    let size = ap length (c.entries.ensures.entries ∙ read_at vs b c.index.result.now (omega arith) c.index.ensures) in
+    let few = c.entries.ensures.few in
+    let ge = c.if-entries-lt-BLOCK_SIZE.false in
     let full : length (get_or (blocks_of vs) b []) ≡ 512 = omega arith in
-    ap concat c.split_block.ensures.blocks ∙ split_numbers (blocks_of vs) b lt full
+    ap joined c.split_block.ensures.blocks ∙ split_entries (blocks_of vs) b lt full
 
 pub returns-then-spot-le-HALF_SIZE-clause-spot : goal.returns-then-spot-le-HALF_SIZE-clause-spot
 returns-then-spot-le-HALF_SIZE-clause-spot c =
@@ -95,9 +95,9 @@ returns-then-spot-le-HALF_SIZE-clause-spot c =
     let b = c.args.spot.block in
     let lt = c.requires.spot.block in
     let count = count_of vs in
-    let size = ap length (c.numbers.ensures.numbers ∙ read_at vs b c.index.result.now (omega arith) c.index.ensures) in
-    let few = c.numbers.ensures.few in
-    let ge = c.if-numbers-lt-BLOCK_SIZE.false in
+    let size = ap length (c.entries.ensures.entries ∙ read_at vs b c.index.result.now (omega arith) c.index.ensures) in
+    let few = c.entries.ensures.few in
+    let ge = c.if-entries-lt-BLOCK_SIZE.false in
     let full : length (get_or (blocks_of vs) b []) ≡ 512 = omega arith in
     subst (λ bs. IsOpenAt bs c.args.spot) (sym c.split_block.ensures.blocks) (split_here (blocks_of vs) b lt full c.args.spot refl c.if-spot-le-HALF_SIZE.true)
 
@@ -107,9 +107,9 @@ returns-then-spot-le-HALF_SIZE-clause-place c =
     let b = c.args.spot.block in
     let lt = c.requires.spot.block in
     let count = count_of vs in
-    let size = ap length (c.numbers.ensures.numbers ∙ read_at vs b c.index.result.now (omega arith) c.index.ensures) in
-    let few = c.numbers.ensures.few in
-    let ge = c.if-numbers-lt-BLOCK_SIZE.false in
+    let size = ap length (c.entries.ensures.entries ∙ read_at vs b c.index.result.now (omega arith) c.index.ensures) in
+    let few = c.entries.ensures.few in
+    let ge = c.if-entries-lt-BLOCK_SIZE.false in
     let full : length (get_or (blocks_of vs) b []) ≡ 512 = omega arith in
     ap (λ bs. place_of bs c.args.spot) c.split_block.ensures.blocks ∙ place_here (blocks_of vs) b lt full c.args.spot refl
 
@@ -119,9 +119,9 @@ returns-clause-kept c =
     let b = c.args.spot.block in
     let lt = c.requires.spot.block in
     let count = count_of vs in
-    let size = ap length (c.numbers.ensures.numbers ∙ read_at vs b c.index.result.now (omega arith) c.index.ensures) in
-    let few = c.numbers.ensures.few in
-    let ge = c.if-numbers-lt-BLOCK_SIZE.false in
+    let size = ap length (c.entries.ensures.entries ∙ read_at vs b c.index.result.now (omega arith) c.index.ensures) in
+    let few = c.entries.ensures.few in
+    let ge = c.if-entries-lt-BLOCK_SIZE.false in
     let full : length (get_or (blocks_of vs) b []) ≡ 512 = omega arith in
     let kept = c.requires.kept in
     let long = c.split_block.ensures.len in
@@ -136,17 +136,17 @@ returns-clause-kept c =
       room = omega arith;
     }
 
-pub returns-clause-numbers : goal.returns-clause-numbers
-returns-clause-numbers c =
+pub returns-clause-entries : goal.returns-clause-entries
+returns-clause-entries c =
     let vs = c.args.list.now.items in
     let b = c.args.spot.block in
     let lt = c.requires.spot.block in
     let count = count_of vs in
-    let size = ap length (c.numbers.ensures.numbers ∙ read_at vs b c.index.result.now (omega arith) c.index.ensures) in
-    let few = c.numbers.ensures.few in
-    let ge = c.if-numbers-lt-BLOCK_SIZE.false in
+    let size = ap length (c.entries.ensures.entries ∙ read_at vs b c.index.result.now (omega arith) c.index.ensures) in
+    let few = c.entries.ensures.few in
+    let ge = c.if-entries-lt-BLOCK_SIZE.false in
     let full : length (get_or (blocks_of vs) b []) ≡ 512 = omega arith in
-    ap concat c.split_block.ensures.blocks ∙ split_numbers (blocks_of vs) b lt full
+    ap joined c.split_block.ensures.blocks ∙ split_entries (blocks_of vs) b lt full
 
 pub returns-clause-spot : goal.returns-clause-spot
 returns-clause-spot c =
@@ -154,9 +154,9 @@ returns-clause-spot c =
     let b = c.args.spot.block in
     let lt = c.requires.spot.block in
     let count = count_of vs in
-    let size = ap length (c.numbers.ensures.numbers ∙ read_at vs b c.index.result.now (omega arith) c.index.ensures) in
-    let few = c.numbers.ensures.few in
-    let ge = c.if-numbers-lt-BLOCK_SIZE.false in
+    let size = ap length (c.entries.ensures.entries ∙ read_at vs b c.index.result.now (omega arith) c.index.ensures) in
+    let few = c.entries.ensures.few in
+    let ge = c.if-entries-lt-BLOCK_SIZE.false in
     let full : length (get_or (blocks_of vs) b []) ≡ 512 = omega arith in
     let within = c.requires.spot.offset in
     let next : Spot = record { block = b + 1; offset = c.args.spot.offset - 256 } in
@@ -168,9 +168,9 @@ returns-clause-place c =
     let b = c.args.spot.block in
     let lt = c.requires.spot.block in
     let count = count_of vs in
-    let size = ap length (c.numbers.ensures.numbers ∙ read_at vs b c.index.result.now (omega arith) c.index.ensures) in
-    let few = c.numbers.ensures.few in
-    let ge = c.if-numbers-lt-BLOCK_SIZE.false in
+    let size = ap length (c.entries.ensures.entries ∙ read_at vs b c.index.result.now (omega arith) c.index.ensures) in
+    let few = c.entries.ensures.few in
+    let ge = c.if-entries-lt-BLOCK_SIZE.false in
     let full : length (get_or (blocks_of vs) b []) ≡ 512 = omega arith in
     let past = c.if-spot-le-HALF_SIZE.false in
     let next : Spot = record { block = b + 1; offset = c.args.spot.offset - 256 } in

@@ -1,4 +1,4 @@
-use Rattle.std.proofs.Common.{◌+◌, refl, sym, ap, subst, arith}
+use Rattle.std.proofs.Common.{◌+◌, sym, ◌∙◌, ap, subst, arith}
 use Rattle.std.specs.Vec.{vec_len, vec_capacity}
 use Rattle.mls_tree_index.specs.Keys.{key_in}
 use Rattle.mls_tree_index.proofs.SortLaws.{AreBelow, below_none, below_same, below_more, below_all, past_cells}
@@ -30,7 +30,7 @@ loop-x-preserved c =
           record {
             few = omega arith;
             room = omega arith;
-            below = subst (λ v. AreBelow at (c.loop-x.x + 1) v.items) (sym w.entries-is) (subst (AreBelow at (c.loop-x.x + 1)) (sym w.push_reserved.ensures.items) (below_more at c.loop-x.x c.loop-x.entries.items _ (record { key = _; here = sym w.in-Some.ensures; front = w.read_front-front.ensures.value; bytes = w.read_front-front.ensures.bytes }) refl before.below));
+            below = subst (λ v. AreBelow at (c.loop-x.x + 1) v.items) (sym w.entries-is) (subst (AreBelow at (c.loop-x.x + 1)) (sym w.push_reserved.ensures.items) (below_more at c.loop-x.x c.loop-x.entries.items _ (record { key = _; here = ap at (w.new-entry.ensures.number) ∙ sym w.in-Some.ensures; front = w.new-entry.ensures.front; bytes = w.new-entry.ensures.bytes }) (w.new-entry.ensures.number) before.below));
           }
       | in_default w ↦
           let wide = ap vec_len w.entries-is in

@@ -6,9 +6,9 @@ abbrev pub invariant-loop-start : goal.invariant-loop-start
 invariant-loop-start l = record {
   known : l.known ≤ l.start;
   order : l.start ≤ l.end;
-  within : l.end ≤ length l.numbers;
-  low : IsLowBefore l.kind l.cells.nodes l.key l.x l.numbers l.known l.start;
-  high : IsHighAt l.kind l.cells.nodes l.key l.x l.numbers l.end;
+  within : l.end ≤ length l.entries;
+  low : IsLowBefore l.kind l.cells.nodes l.key l.entry l.entries l.known l.start;
+  high : IsHighAt l.kind l.cells.nodes l.key l.entry l.entries l.end;
 }
 
 abbrev pub decreases-loop-start : goal.decreases-loop-start

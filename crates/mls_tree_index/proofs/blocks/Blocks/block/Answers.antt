@@ -1,5 +1,5 @@
 use Rattle.std.proofs.Common.{length, ap, arith}
-use Rattle.mls_tree_index.specs.Block.{BlockNumbers}
+use Rattle.mls_tree_index.specs.Block.{BlockEntries}
 use Rattle.mls_tree_index.specs.Blocks.{BlockList, blocks_of}
 use Rattle.mls_tree_index.proofs.BlockLaws.{blocks_full, block_at, count_of}
 use Rattle.mls_tree_index.proofs.blocks.Blocks.block.Goals as goal
@@ -12,6 +12,6 @@ returns-clause-full c = λ some.
     let lt = c.requires in
     let here = blocks_full (blocks_of vs) c.args.b c.self.invariant.blocks some (omega arith) in
     let at = ap length (block_at vs c.args.b c.index.result.now (omega arith)) in
-    let read = ap (λ (v : BlockNumbers). length v.numbers) c.index.ensures in
-    let value = ap length c.numbers.ensures.numbers in
+    let read = ap (λ (v : BlockEntries). length v.entries) c.index.ensures in
+    let value = ap length c.entries.ensures.entries in
     omega arith

@@ -8,8 +8,8 @@ invariant-loop-start l = record {
   order : l.start ≤ l.end;
   blocks : AreBlocks l.self.blocks;
   block : l.end < length l.self.blocks;
-  low : BeginsLow l.kind l.cells.nodes l.key l.x l.self.blocks l.start;
-  high : EndsHigh l.kind l.cells.nodes l.key l.x l.self.blocks l.end;
+  low : BeginsLow l.kind l.cells.nodes l.key l.entry l.self.blocks l.start;
+  high : EndsHigh l.kind l.cells.nodes l.key l.entry l.self.blocks l.end;
 }
 
 abbrev pub decreases-loop-start : goal.decreases-loop-start

@@ -1,10 +1,10 @@
 use Rattle.std.proofs.Common.{◌-◌, length, set, sym, ◌∙◌, ap, subst, arith, inl, inr}
-use Rattle.std.specs.List.{concat, insert}
+use Rattle.std.specs.List.{insert}
 use Rattle.std.specs.Vec.{vec_len}
 use Rattle.std.proofs.lemmas.Bool.{cases_Bool}
 use Rattle.std.proofs.lemmas.List.Edits.{length-insert}
-use Rattle.mls_tree_index.specs.Block.{BlockNumbers}
-use Rattle.mls_tree_index.specs.Blocks.{AreBlocks, BlockList, are_shared, blocks_of, least_free, place_of}
+use Rattle.mls_tree_index.specs.Block.{BlockEntries}
+use Rattle.mls_tree_index.specs.Blocks.{AreBlocks, BlockList, are_shared, blocks_of, joined, least_free, place_of}
 use Rattle.mls_tree_index.proofs.BlockLaws.{blocks_set, count_of, insert_in, own_set, own_within, read_at, set_at}
 use Rattle.mls_tree_index.proofs.RoomLaws.{least_at, least_set, room_left, room_own, room_shared}
 use Rattle.mls_tree_index.proofs.blocks.Blocks.insert.Goals as goal
@@ -19,32 +19,32 @@ invariant_of-self c =
     let lt = own_within vs b c.make_way-spot.ensures.own in
     let within = c.make_way-spot.ensures.spot.offset in
     let read = ap length (read_at vs b old lt c.index_mut.ensures.value) in
-    let more = length-insert old.numbers c.make_way-spot.result.offset c.args.x (omega arith) in
-    let len = ap (λ (w : BlockNumbers). length w.numbers) c.put_in.ensures in
+    let more = length-insert old.entries c.make_way-spot.result.offset c.args.entry (omega arith) in
+    let len = ap (λ (w : BlockEntries). length w.entries) c.put_in.ensures in
     record {
-      blocks = subst AreBlocks (sym (set_at vs b v)) (blocks_set (blocks_of vs) b v.numbers (omega arith) kept.blocks);
+      blocks = subst AreBlocks (sym (set_at vs b v)) (blocks_set (blocks_of vs) b v.entries (omega arith) kept.blocks);
       spare = kept.spare;
       room = kept.room;
     }
 
-pub returns-clause-numbers : goal.returns-clause-numbers
-returns-clause-numbers c =
+pub returns-clause-entries : goal.returns-clause-entries
+returns-clause-entries c =
     let vs = c.make_way-spot.new.list.items in
     let b = c.make_way-spot.result.block in
     let o = c.make_way-spot.result.offset in
     let found = c.make_way-spot.ensures.spot in
     let lt = own_within vs b c.make_way-spot.ensures.own in
-    let items = ap (λ (w : BlockNumbers). w.numbers) c.put_in.ensures ∙ ap (λ ns. insert ns o c.args.x) (read_at vs b c.index_mut.result.now lt c.index_mut.ensures.value) in
-    ap concat (set_at vs b c.put_in.new.self ∙ ap (set (blocks_of vs) b) items)
-    ∙ insert_in (blocks_of vs) b o c.args.x found.block found.offset
-    ∙ ap (λ ns. insert ns (place_of (blocks_of vs) c.make_way-spot.result) c.args.x) c.make_way-spot.ensures.numbers
-    ∙ ap (λ n. insert (concat (blocks_of c.own_block.new.list.items)) n c.args.x) c.make_way-spot.ensures.place
-    ∙ ap (λ bs. insert (concat bs) (place_of bs c.args.spot) c.args.x) c.own_block.ensures.blocks
-    ∙ ap (λ (t : BlockList). insert (concat t.blocks) (place_of t.blocks c.args.spot) c.args.x) c.self.view_is
+    let items = ap (λ (w : BlockEntries). w.entries) c.put_in.ensures ∙ ap (λ ns. insert ns o c.args.entry) (read_at vs b c.index_mut.result.now lt c.index_mut.ensures.value) in
+    ap joined (set_at vs b c.put_in.new.self ∙ ap (set (blocks_of vs) b) items)
+    ∙ insert_in (blocks_of vs) b o c.args.entry found.block found.offset
+    ∙ ap (λ ns. insert ns (place_of (blocks_of vs) c.make_way-spot.result) c.args.entry) c.make_way-spot.ensures.entries
+    ∙ ap (λ n. insert (joined (blocks_of c.own_block.new.list.items)) n c.args.entry) c.make_way-spot.ensures.place
+    ∙ ap (λ bs. insert (joined bs) (place_of bs c.args.spot) c.args.entry) c.own_block.ensures.blocks
+    ∙ ap (λ (t : BlockList). insert (joined t.blocks) (place_of t.blocks c.args.spot) c.args.entry) c.self.view_is
 
 pub returns-clause-own : goal.returns-clause-own
 returns-clause-own c = λ none.
-    own_set c.make_way-spot.new.list.items c.make_way-spot.result.block c.put_in.new.self (ap (λ (w : BlockNumbers). w.shared) c.put_in.ensures)
+    own_set c.make_way-spot.new.list.items c.make_way-spot.result.block c.put_in.new.self (ap (λ (w : BlockEntries). w.shared) c.put_in.ensures)
     (c.make_way-spot.ensures.others (c.own_block.ensures.others (ap (λ (t : BlockList). t.shared) c.self.view_is ∙ none)))
 
 pub own_block-requires-clause-room : goal.own_block-requires-clause-room
@@ -81,14 +81,14 @@ returns-clause-room c =
     let count = count_of vs in
     let within = c.make_way-spot.ensures.spot.offset in
     let read = ap length (read_at vs b old lt c.index_mut.ensures.value) in
-    let more = length-insert old.numbers o c.args.x (omega arith) in
-    let len = ap (λ (w : BlockNumbers). length w.numbers) c.put_in.ensures in
+    let more = length-insert old.entries o c.args.entry (omega arith) in
+    let len = ap (λ (w : BlockEntries). length w.entries) c.put_in.ensures in
     let room = ap (λ (t : BlockList). t.room) c.self.view_is in
     let one = c.own_block.ensures.room in
     let two = c.make_way-spot.ensures.room in
-    let own = ap (λ (w : BlockNumbers). w.shared) c.put_in.ensures in
+    let own = ap (λ (w : BlockEntries). w.shared) c.put_in.ensures in
     let least = least_at (blocks_of vs) b (omega arith) in
-    let kept = least_set (least_free (blocks_of vs) - 1) (blocks_of vs) b v.numbers (omega arith) (omega arith) in
+    let kept = least_set (least_free (blocks_of vs) - 1) (blocks_of vs) b v.entries (omega arith) (omega arith) in
     let put = ap least_free (set_at vs b v) in
     let same = ap least_free c.own_block.ensures.blocks in
     let way = c.make_way-spot.ensures.free in

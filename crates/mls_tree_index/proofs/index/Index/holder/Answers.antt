@@ -1,40 +1,52 @@
-use Rattle.std.proofs.Common.{refl, ◌&&◌, nat_lt, length, get_or, sym, ◌∙◌, ap, arith, le-ltb}
-use Rattle.std.proofs.Math.Bool.{and-false}
-use Rattle.std.specs.List.{concat}
-use Rattle.mls_tree_index.specs.Blocks.{place_of}
+use Rattle.std.proofs.Common.{refl, ◌&&◌, nat_eq, sym, ◌∙◌, ap, subst, arith}
+use Rattle.std.proofs.lemmas.Bool.{and_parts}
+use Rattle.mls_tree_index.specs.Blocks.{joined, place_of}
+use Rattle.mls_tree_index.specs.Entries.{AreOrdered, front_of, numbers_of}
 use Rattle.mls_tree_index.specs.Indexes.{Listing}
-use Rattle.mls_tree_index.specs.Keys.{key_in, is_key}
-use Rattle.mls_tree_index.proofs.StepLaws.{held_first, place_for}
+use Rattle.mls_tree_index.specs.Keys.{is_held, is_key, key_in}
+use Rattle.mls_tree_index.specs.Searches.{IsPlaceOf}
+use Rattle.mls_tree_index.proofs.OrderLaws.{key_found}
+use Rattle.mls_tree_index.proofs.SearchLaws.{found_at, none_at}
+use Rattle.mls_tree_index.proofs.StepLaws.{held_first}
 use Rattle.mls_tree_index.proofs.index.Index.holder.Goals as goal
 
 pub returns-in_default : goal.returns-in_default
 returns-in_default c = λ is.
     let s = c.args.self.now in
     let kind = c.self.inside.kind in
-    let ns = concat c.self.inside.blocks.blocks in
+    let es = joined c.self.inside.blocks.blocks in
     let cells = c.args.cells.now.nodes in
     let p = place_of c.self.inside.blocks.blocks c.spot_of-spot.result in
     let kinds = ap (λ (t : Listing). t.kind) c.self.view_is in
-    let numbers = ap (λ (t : Listing). t.numbers) c.self.view_is in
+    let entries = ap (λ (t : Listing). t.entries) c.self.view_is in
     let k = c.args.key.now in
-    let gap = place_for s kind ns cells k 0 p kinds numbers c.spot_of-spot.ensures.gap (key_in s.kind cells) (λ x some. refl) is.entries in
-    let first = held_first s.kind cells cells (λ x some. refl) s.numbers is.entries k p gap in
-    let past = c.in_default.ensures in
-    let wide = ap length numbers in
-    sym first ∙ ap (λ v. v && is_key k (key_in s.kind cells (get_or s.numbers p 0))) (le-ltb p (length s.numbers) (omega arith))
+    let are = subst (λ j. AreOrdered (key_in j cells) es) (sym kinds) (subst (AreOrdered (key_in s.kind cells)) (sym entries) is.entries) in
+    let place = subst (λ n. IsPlaceOf kind es cells k n p) c.new-entry.ensures.number c.spot_of-spot.ensures.gap in
+    let first = held_first kind cells cells (λ x some. refl) (numbers_of es) are.numbers k p (place (key_in kind cells) (λ x some. refl) are) in
+    ap (λ j. is_held j cells k) (sym kinds) ∙ sym first ∙ sym (none_at kind cells (key_in kind cells) (λ x some. refl) es are k p c.in_default.ensures)
 
-pub returns-else-is_key_in : goal.returns-else-is_key_in
-returns-else-is_key_in c = λ is.
+pub returns-then-is_of : goal.returns-then-is_of
+returns-then-is_of c = λ is.
+    let cells = c.args.cells.now.nodes in
+    let kinds = ap (λ (t : Listing). t.kind) c.self.view_is in
+    let own = c.in-Some.own in
+    let both = and_parts (nat_eq own.front c.new-entry.result.front) (is_key c.args.key.now (key_in c.self.inside.kind cells own.number)) (sym c.is_of.ensures ∙ c.if-is_of.true) in
+    ap (λ j. key_in j cells own.number) (sym kinds) ∙ key_found c.args.key.now (key_in c.self.inside.kind cells own.number) both.1
+
+pub returns-else-is_of : goal.returns-else-is_of
+returns-else-is_of c = λ is.
     let s = c.args.self.now in
     let kind = c.self.inside.kind in
-    let ns = concat c.self.inside.blocks.blocks in
+    let es = joined c.self.inside.blocks.blocks in
     let cells = c.args.cells.now.nodes in
     let p = place_of c.self.inside.blocks.blocks c.spot_of-spot.result in
     let kinds = ap (λ (t : Listing). t.kind) c.self.view_is in
-    let numbers = ap (λ (t : Listing). t.numbers) c.self.view_is in
+    let entries = ap (λ (t : Listing). t.entries) c.self.view_is in
     let k = c.args.key.now in
-    let gap = place_for s kind ns cells k 0 p kinds numbers c.spot_of-spot.ensures.gap (key_in s.kind cells) (λ x some. refl) is.entries in
-    let first = held_first s.kind cells cells (λ x some. refl) s.numbers is.entries k p gap in
-    let x = sym c.in-Some.ensures.1 ∙ ap (λ ms. get_or ms p 0) numbers in
-    let other = sym (c.is_key_in.ensures ∙ ap (λ j. is_key k (key_in j cells c.in-Some.x)) kinds ∙ ap (λ n. is_key k (key_in s.kind cells n)) x) ∙ c.if-is_key_in.false in
-    sym first ∙ ap (λ v. nat_lt p (length s.numbers) && v) other ∙ and-false _
+    let own = c.in-Some.own in
+    let are = subst (λ j. AreOrdered (key_in j cells) es) (sym kinds) (subst (AreOrdered (key_in s.kind cells)) (sym entries) is.entries) in
+    let place = subst (λ n. IsPlaceOf kind es cells k n p) c.new-entry.ensures.number c.spot_of-spot.ensures.gap in
+    let first = held_first kind cells cells (λ x some. refl) (numbers_of es) are.numbers k p (place (key_in kind cells) (λ x some. refl) are) in
+    let found = found_at kind cells (key_in kind cells) (λ x some. refl) es are k p own c.in-Some.ensures.0 c.in-Some.ensures.1 in
+    let other = ap (λ n. nat_eq own.front n && is_key k (key_in kind cells own.number)) (sym c.new-entry.ensures.front) ∙ sym c.is_of.ensures ∙ c.if-is_of.false in
+    ap (λ j. is_held j cells k) (sym kinds) ∙ sym first ∙ sym found ∙ other

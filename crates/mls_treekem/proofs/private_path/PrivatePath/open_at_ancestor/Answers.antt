@@ -15,10 +15,10 @@ returns-in_default g c =
 pub returns : goal.returns
 returns g c =
     λ ss long.
-    here_ok g.S.Suite.crypto c.args.context.now c.args.added.now (term c.args.tree.now) c.args.height c.args.place.now c.requires.placed c.args.self.now ss long c.deref.result.now (reverse c.args.path.now) c.as_slice-ciphertexts.result.now
+    here_ok g.S.Suite.crypto c.args.context.now c.args.added.now (term c.args.tree.now) c.args.height c.args.place.now c.requires.placed c.args.self.now ss long c.deref.result.now (reverse c.args.path.now) c.in-Some.node.now.ciphertexts
     c.in_ok-secret.secret c.in_ok-above.above.items
     (c.deref.ensures.value ∙ c.in_ok-nodes.ensures)
-    (ap first_ciphertexts (last_first _ _ _ c.in-Some.ensures.cases.0) ∙ sym c.as_slice-ciphertexts.ensures)
+    (ap first_ciphertexts (last_first _ _ _ c.in-Some.ensures.cases.0))
     (c.in_ok-secret.ensures (subtree_at (term c.args.tree.now) c.args.place.now.beside) c.requires.placed.perfect)
     c.in_ok-above.ensures
 
@@ -26,7 +26,7 @@ pub returns-in_err-secret : goal.returns-in_err-secret
 returns-in_err-secret g c =
     let p = err_from_is_err_and c.from_residual-in_err-secret.result c.from_residual-in_err-secret.ensures.1 in
     rw (p.1, p.2) (λ ss long ne.
-    here_err g.S.Suite.crypto c.args.context.now c.args.added.now (term c.args.tree.now) c.args.height c.args.place.now c.requires.placed c.args.self.now ss long c.deref.result.now (reverse c.args.path.now) c.as_slice-ciphertexts.result.now _
+    here_err g.S.Suite.crypto c.args.context.now c.args.added.now (term c.args.tree.now) c.args.height c.args.place.now c.requires.placed c.args.self.now ss long c.deref.result.now (reverse c.args.path.now) c.in-Some.node.now.ciphertexts _
     (c.deref.ensures.value ∙ c.in_ok-nodes.ensures)
-    (ap first_ciphertexts (last_first _ _ _ c.in-Some.ensures.cases.0) ∙ sym c.as_slice-ciphertexts.ensures)
+    (ap first_ciphertexts (last_first _ _ _ c.in-Some.ensures.cases.0))
     (c.in_err-secret.ensures (subtree_at (term c.args.tree.now) c.args.place.now.beside) c.requires.placed.perfect ne))

@@ -1,5 +1,5 @@
 use Rattle.std.proofs.Common.{arith}
-use Rattle.mls_tree_index.proofs.entries.read_front.Goals as goal
+use Rattle.mls_tree_index.proofs.entry.read_front.Goals as goal
 
 pub returns-clause-bytes : goal.returns-clause-bytes
 returns-clause-bytes c = record {
