@@ -32,15 +32,17 @@ pub(crate) fn is_same(own: &[u8], key: &[u8]) -> bool
     compare(own, key).is_eq()
 }
 
-/// Whether an entry comes before that of a key by key, and then by number.
+/// Whether an entry comes before that of a key by key, and then by number. Keys with one front are mostly the same, and
+/// that is told at once.
 fn is_key_before(kind: KeyKind, cells: &Cells, own: Entry, key: &[u8], entry: Entry) -> bool
     ensures { result ≡ is_lt (entry_cmp (entry_at (key_in kind cells.now.nodes) own.number)
         (key.now, entry.number)) }
 {
-    match compare(own.key(kind, cells), key) {
-        Ordering::Equal => own.number < entry.number,
-        order => order.is_lt(),
+    let held = own.key(kind, cells);
+    if held == key {
+        return own.number < entry.number;
     }
+    compare(held, key).is_lt()
 }
 
 /// Whether an entry comes before that of a key. Its key is read only where the fronts are the same.
