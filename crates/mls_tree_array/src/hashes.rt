@@ -23,7 +23,8 @@ fn fill_hashes(cells: &mut Cells, height: u32, first: u32, done: &mut u64) -> Ha
         (part height first cells.old.hashes) }
     ensures value { result ≡ tree_hash first (term_at height first cells.old.nodes) }
     ensures all { cells.new ≡ record cells.old {
-      hashes = splice first (hashes_of first (term_at height first cells.old.nodes)) cells.old.hashes;
+      hashes = splice first (hashes_of first (term_at height first cells.old.nodes))
+          cells.old.hashes;
     } }
     ensures counted { done.new
         ≡ counted done.old (cold_places (part height first cells.old.hashes)) }
