@@ -43,7 +43,12 @@ impl Model for Outcome {
     ghost coded = { coded_outcome };
 
     ghost view = { λ o. record {
-      change = record { edits = o.edits; tree = next_term o.edits.tree o.tree; provisional = o.provisional; context = o.context };
+      change = record {
+        edits = o.edits;
+        tree = next_term o.edits.tree o.tree;
+        provisional = o.provisional;
+        context = o.context;
+      };
       on_own = is_merged o.tree;
     } };
 

@@ -58,19 +58,24 @@ pub fn three(alloc: Global) -> Result<Vec<Act>, AllocError> {
     ]?)
 }
 
-/// Of three the second proposes an update (message 5), which the first commits by its reference (message 6).
-pub fn update(alloc: Global) -> Result<Vec<Act>, AllocError> {
+/// Of three the second makes a proposal (message 5), which the first commits by its reference (message 6).
+fn commit_proposal(alloc: Global, proposal: Act, seed: u8) -> Result<Vec<Act>, AllocError> {
     let mut acts = three(alloc)?;
     acts.extend_from_slice(&[
-        Act::Update { member: 1, seed: 6 },
+        proposal,
         deliver(0, 5),
         deliver(2, 5),
-        commit(0, Parts::Named(5), false, 7),
+        commit(0, Parts::Named(5), false, seed),
         deliver(0, 6),
         deliver(1, 6),
         deliver(2, 6),
     ])?;
     Ok(acts)
+}
+
+/// Of three the second proposes an update (message 5), which the first commits by its reference (message 6).
+pub fn update(alloc: Global) -> Result<Vec<Act>, AllocError> {
+    commit_proposal(alloc, Act::Update { member: 1, seed: 6 }, 7)
 }
 
 /// Of three the second proposes the removal of the third (message 5), which the first commits by its reference
@@ -93,15 +98,8 @@ pub fn removal(alloc: Global) -> Result<Vec<Act>, AllocError> {
 /// Of three the second proposes extensions for the group (message 5), which the first commits by its reference (message
 /// 6); then the third adds a fourth, with a path (commit 8, Welcome 9).
 pub fn extensions(alloc: Global) -> Result<Vec<Act>, AllocError> {
-    let mut acts = three(alloc)?;
+    let mut acts = commit_proposal(alloc, Act::Extensions { member: 1 }, 6)?;
     acts.extend_from_slice(&[
-        Act::Extensions { member: 1 },
-        deliver(0, 5),
-        deliver(2, 5),
-        commit(0, Parts::Named(5), false, 6),
-        deliver(0, 6),
-        deliver(1, 6),
-        deliver(2, 6),
         candidate(b'd', 7),
         commit(2, additions_from(7, 1), true, 8),
         deliver(2, 8),

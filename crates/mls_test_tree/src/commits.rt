@@ -136,7 +136,7 @@ fn opens_new(alloc: Global, own: &mut PrivatePath, nodes: &[u64]) -> bool {
 }
 
 /// Whether leaf i, who follows the edits, opens the commit's path and has keys of these nodes then.
-fn is_received(alloc: Global, i: u8, nodes: &[u64]) -> bool {
+fn follower_opens(alloc: Global, i: u8, nodes: &[u64]) -> bool {
     match follower(alloc, i) {
         Some(mut own) => opens_new(alloc, &mut own, nodes),
         None => false,
@@ -153,8 +153,8 @@ fn is_sealed(alloc: Global, seals: u32) -> bool {
 
 #[test]
 fn received_in_order(rt: HostRuntime) {
-    assert!(rt; is_received(rt.alloc(), 0, &[0, 1, 3]));
-    assert!(rt; is_received(rt.alloc(), 2, &[3, 4]));
+    assert!(rt; follower_opens(rt.alloc(), 0, &[0, 1, 3]));
+    assert!(rt; follower_opens(rt.alloc(), 2, &[3, 4]));
     assert!(rt; is_sealed(rt.alloc(), 2));
 }
 

@@ -87,7 +87,7 @@ fn key_of(k: u8) -> u8 {
 }
 
 /// A hundred leaves; the signature key of each is half its encryption key, rounded down.
-fn hundred(alloc: Global) -> Result<Cells, AllocError> {
+fn hundred_leaves(alloc: Global) -> Result<Cells, AllocError> {
     let mut slots = Vec::new(alloc);
     for k in 0..100u8 {
         slots.push(leaf(alloc, key_of(k), key_of(k) / 2)?)?;
@@ -95,7 +95,7 @@ fn hundred(alloc: Global) -> Result<Cells, AllocError> {
     Cells::from_slots(slots)
 }
 
-fn holds_hundred(index: &Index, cells: &Cells) -> bool {
+fn holds_each_leaf(index: &Index, cells: &Cells) -> bool {
     for k in 0..100u8 {
         if !holds(index, cells, &[key_of(k)]) {
             return false;
@@ -106,9 +106,9 @@ fn holds_hundred(index: &Index, cells: &Cells) -> bool {
 
 /// Whether an index finds the encryption keys of a hundred leaves, each once.
 fn orders_hundred(alloc: Global) -> Result<bool, AllocError> {
-    let cells = hundred(alloc)?;
+    let cells = hundred_leaves(alloc)?;
     let keys = index(alloc, KeyKind::Encryption, &cells)?;
-    Ok(has_distinct_keys(&keys) && holds_hundred(&keys, &cells))
+    Ok(has_distinct_keys(&keys) && holds_each_leaf(&keys, &cells))
 }
 
 /// Takes out each second cell, and blanks it.
@@ -126,7 +126,7 @@ fn leave_each_second(
 
 /// Whether no two of a hundred leaves have one signature key, and then of each second.
 fn halves_hundred(alloc: Global) -> Result<[bool; 2], AllocError> {
-    let mut cells = hundred(alloc)?;
+    let mut cells = hundred_leaves(alloc)?;
     let mut clients = index(alloc, KeyKind::Signature, &cells)?;
     let all = has_distinct_keys(&clients);
     leave_each_second(alloc, &mut clients, &mut cells)?;

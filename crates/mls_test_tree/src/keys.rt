@@ -121,7 +121,7 @@ fn copy_of(alloc: Global, own: &PrivatePath) -> Option<Box<PrivatePath>> {
 }
 
 /// Whether a copy is of leaf 1, and has its key and those of the path of two nodes.
-fn is_copied(copy: &PrivatePath, made: &PathSecrets) -> bool {
+fn has_keys_of_maker(copy: &PrivatePath, made: &PathSecrets) -> bool {
     copy.leaf() == 1 && has_made(copy, made)
 }
 
@@ -129,7 +129,7 @@ fn is_copied(copy: &PrivatePath, made: &PathSecrets) -> bool {
 fn copy_has_made(alloc: Global) -> Option<bool> {
     let maker = two_maker(alloc)?;
     match copy_of(alloc, &maker.own) {
-        Some(copy) => Some(is_copied(&copy, &maker.made)),
+        Some(copy) => Some(has_keys_of_maker(&copy, &maker.made)),
         None => None,
     }
 }

@@ -26,16 +26,16 @@ fn ciphertext(sealed: Sealed) -> HpkeCiphertext {
 }
 
 /// A text sealed to the key of a private key of 32 such bytes.
-fn sealed(alloc: Global, key: u8, text: &[u8]) -> Option<HpkeCiphertext> {
+fn seal(alloc: Global, key: u8, text: &[u8]) -> Option<HpkeCiphertext> {
     let pk = public(alloc, &[key; 32])?;
     Some(ciphertext(encrypt(alloc, &pk, text)?))
 }
 
 /// A text sealed to each of some keys.
-fn sealed_to(alloc: Global, keys: &[u8], text: &[u8]) -> Option<Ciphertexts> {
+fn seal_to_each(alloc: Global, keys: &[u8], text: &[u8]) -> Option<Ciphertexts> {
     let mut ciphertexts = Vec::new(alloc);
     for key in keys {
-        ciphertexts.push(sealed(alloc, *key, text)?).ok()?;
+        ciphertexts.push(seal(alloc, *key, text)?).ok()?;
     }
     Some(Ciphertexts::from_vec(ciphertexts))
 }
@@ -61,7 +61,12 @@ fn push_node(
 /// The lower node of leaf 1's path.
 fn lower_node(alloc: Global) -> Option<Vec<UpdatePathNode>> {
     let mut nodes = Vec::new(alloc);
-    push_node(alloc, &mut nodes, &START, sealed_to(alloc, &[0], &START)?)?;
+    push_node(
+        alloc,
+        &mut nodes,
+        &START,
+        seal_to_each(alloc, &[0], &START)?,
+    )?;
     Some(nodes)
 }
 
@@ -78,7 +83,7 @@ fn path_of(
 
 /// That path, with a text sealed to some keys at its highest node.
 fn path(alloc: Global, highest: &Secret, keys: &[u8], text: &[u8]) -> Option<Vec<UpdatePathNode>> {
-    path_of(alloc, highest, sealed_to(alloc, keys, text)?)
+    path_of(alloc, highest, seal_to_each(alloc, keys, text)?)
 }
 
 /// The path secret of the root.
@@ -174,7 +179,7 @@ fn another_chain_above(rt: HostRuntime) {
 }
 
 /// A ciphertext with one bit changed.
-fn changed(alloc: Global, sealed: HpkeCiphertext) -> Option<HpkeCiphertext> {
+fn change_bit(alloc: Global, sealed: HpkeCiphertext) -> Option<HpkeCiphertext> {
     let mut changed = Vec::from_slice(alloc, sealed.ciphertext.as_slice()).ok()?;
     if let Some(byte) = changed.first_mut() {
         *byte ^= 1;
@@ -193,12 +198,12 @@ fn alone(alloc: Global, sealed: HpkeCiphertext) -> Option<Ciphertexts> {
 }
 
 /// The root's path secret sealed to leaf 2, with one bit changed.
-fn changed_sealed(alloc: Global) -> Option<HpkeCiphertext> {
-    changed(alloc, sealed(alloc, 2, &second())?)
+fn changed_ciphertext(alloc: Global) -> Option<HpkeCiphertext> {
+    change_bit(alloc, seal(alloc, 2, &second())?)
 }
 
 fn changed_alone(alloc: Global) -> Option<Ciphertexts> {
-    alone(alloc, changed_sealed(alloc)?)
+    alone(alloc, changed_ciphertext(alloc)?)
 }
 
 /// Leaf 1's path, whose root has its path secret sealed to leaf 2, with one bit changed.

@@ -1,6 +1,6 @@
 //! Edits of a tree by the rows of tests. They promise nothing, and answer numbers.
 
-use crate::rows::trees::{committed, copy_of, member};
+use crate::rows::trees::{copy_of, leaf_of_commit, member};
 use mls_leaf::{Bytes, LeafNode, LeafSource};
 use mls_tree::{Hash, PublicTree, TreeError};
 use std::alloc::{AllocError, Global};
@@ -82,7 +82,7 @@ fn path_hash(tree: &mut PublicTree, i: u32, keys: Vec<Bytes>) -> Result<Vec<u8>,
 
 /// The leaf with this key of a commit with this parent hash, in a box.
 fn committed_leaf(alloc: Global, key: u8, hash: Vec<u8>) -> Result<Box<LeafNode>, AllocError> {
-    let leaf = committed(alloc, key, hash)?;
+    let leaf = leaf_of_commit(alloc, key, hash)?;
     Ok(Box::new(alloc, leaf)?)
 }
 
@@ -235,7 +235,7 @@ fn hashes_done(tree: &PublicTree) -> u64 {
     tree.hashes_done()
 }
 
-fn copied(alloc: Global, leaf: &LeafNode) -> Result<Box<LeafNode>, TreeError> {
+fn copy_leaf(alloc: Global, leaf: &LeafNode) -> Result<Box<LeafNode>, TreeError> {
     let copy = leaf.clone()?;
     Ok(Box::new(alloc, copy)?)
 }
@@ -248,7 +248,7 @@ fn merged_hash(
     leaf: &LeafNode,
     key: u8,
 ) -> Result<Hash, TreeError> {
-    let leaf = copied(alloc, leaf)?;
+    let leaf = copy_leaf(alloc, leaf)?;
     let mut copy = copy_of(alloc, tree)?;
     merge_keys(alloc, &mut copy, i, leaf, &[key], 1)?;
     Ok(tree_hash(&mut copy))

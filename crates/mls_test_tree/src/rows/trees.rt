@@ -57,7 +57,11 @@ fn leaf_of(alloc: Global, parts: LeafParts, source: LeafSource) -> LeafNode {
 }
 
 /// A leaf with this byte as its encryption key, of a commit with this parent hash.
-pub(crate) fn committed(alloc: Global, key: u8, hash: Vec<u8>) -> Result<LeafNode, AllocError> {
+pub(crate) fn leaf_of_commit(
+    alloc: Global,
+    key: u8,
+    hash: Vec<u8>,
+) -> Result<LeafNode, AllocError> {
     let parent_hash = Bytes::from_vec(hash);
     let parts = parts(alloc, &[key])?;
     Ok(leaf_of(alloc, parts, LeafSource::Commit { parent_hash }))
