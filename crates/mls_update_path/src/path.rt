@@ -1,13 +1,16 @@
 //! Making a path.
 
-ghost use Rattle.std.specs.Prelude.{◌≡◌, ◌+◌, ◌<◌, ◌≤◌, ◌^◌, length, None, IfOk};
+ghost use Rattle.std.specs.Prelude.{◌≡◌, ◌+◌, ◌<◌, ◌≤◌, ◌^◌, length, None, IfOk, OnOk};
+ghost use Rattle.mls_wire.specs.Checks.{Answers};
 ghost use Rattle.mls_leaf.specs.GroupExtensions.{group_extensions};
 ghost use Rattle.mls_leaf.specs.Leaf.{leaf_node};
 ghost use Rattle.mls_candidate.specs.Leaves.{IsPublicKey};
 ghost use Rattle.mls_tree.specs.PathDraft.{IsDraftFor};
+ghost use Rattle.mls_tree.specs.Paths.{merge_answer};
 ghost use Rattle.mls_tree.specs.Tree.{term};
 ghost use Rattle.mls_public_group.specs.Short.{IsBelow, HasLeavesBelow, IsShortContext, StaysShort};
 ghost use Rattle.mls_treekem_model.specs.Height.{HasFollowed};
+ghost use Rattle.mls_update_path.specs.Faults.{number_of};
 ghost use Rattle.mls_update_path.specs.NewPath.{MakesPath, IsValid};
 ghost use Rattle.mls_update_path.specs.Parts.{AreAllKeys, ChecksLeaf, IsChain, MakesLeaf, MergesNewPath, MergesPath};
 
@@ -73,6 +76,24 @@ fn make_checked_leaf<S: Suite>(
     Ok(leaf)
 }
 
+/// Merges a drafted path with this leaf into the tree (`KeyRepeated` 25, `ParentHashWrong` 24), and follows it with the
+/// committer's private keys.
+fn merge_and_follow(
+    tree: &mut PublicTree,
+    keys: &mut PrivatePath,
+    leaf: &LeafNode,
+    draft: PathDraft,
+) -> Result<(), PathError>
+    requires { IsDraftFor (term tree.old) draft }
+    ensures answer { Answers (λ _. term tree.new) number_of
+        (merge_answer (term tree.old) draft.index leaf.now draft.keys) result }
+    ensures keys { OnOk result (HasFollowed None (term tree.new) keys.old keys.new) }
+{
+    tree.merge_draft(leaf.clone()?, draft)?;
+    keys.follow_edit(tree, None)?;
+    Ok(())
+}
+
 /// The tree with a drafted path merged, and the committer's private keys in it (`KeyRepeated` 25, `ParentHashWrong` 24).
 fn merge_leaf_and_keys(
     tree: PublicTree,
@@ -88,8 +109,7 @@ fn merge_leaf_and_keys(
 {
     let mut tree = tree;
     let Draft { secrets, mut keys } = made;
-    tree.merge_draft(leaf.clone()?, draft)?;
-    keys.follow_edit(&tree, None)?;
+    merge_and_follow(&mut tree, &mut keys, &leaf, draft)?;
     Ok(Merged {
         leaf,
         tree,
