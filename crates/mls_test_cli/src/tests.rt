@@ -1,9 +1,11 @@
 //! What `mls show` prints, and what the program says of faults.
 
+mod cases;
 mod check;
 mod drawings;
 mod ends;
 mod extensions;
+mod faults;
 mod json;
 mod options;
 mod places;
@@ -18,10 +20,12 @@ mod views;
 
 ghost use Rattle.std.specs.Prelude.{◌≡◌, IfSome, Some, false};
 
+use crate::tests::cases::{FileCase, count_met_by, is_met};
+use crate::tests::faults::{is_cut_at_lines, is_unread_at_each, serve_with_errors};
 use crate::tests::vectors::repeat_text;
 use mls_cli_replay::Silent;
 use mls_cli_serve::{NoJob, Request, no_text, request, serve};
-use mls_cli_text::{In, Input, Out, Output};
+use mls_cli_text::{Input, Out, Output};
 use std::alloc::{AllocError, Global};
 use std::io;
 use std::io::{ErrorKind, Read, Write};
@@ -75,6 +79,11 @@ fn unless_out_of_memory(status: u8, err: &[u8]) -> Result<(), AllocError> {
     Ok(())
 }
 
+/// What these words ask for. It promises nothing.
+pub fn request_of<'a>(alloc: Global, words: &'a [&str]) -> Result<Request<'a>, NoJob> {
+    request(alloc, words)
+}
+
 /// The status of a request over these ends, where nobody takes what is reported of a replay.
 pub fn serve_silently<I: Input, O: Output, E: Write>(
     alloc: Global,
@@ -116,7 +125,7 @@ fn serve_words(
 
 /// The status for words and a file, and what is printed: on the output, and behind it on the errors.
 pub fn serve_file(alloc: Global, words: &[&str], file: &[u8]) -> Result<(u8, Vec<u8>), AllocError> {
-    let mut left = serve_words(alloc, &request(alloc, words), Some(file))?;
+    let mut left = serve_words(alloc, &request_of(alloc, words), Some(file))?;
     left.out.extend_from_slice(left.err.as_slice())?;
     Ok((left.status, left.out))
 }
@@ -153,19 +162,6 @@ fn with_room(alloc: Global, room: usize) -> Result<Full, AllocError> {
     Ok(Full { held, room })
 }
 
-/// Whether this byte ends a line, or there is none.
-fn ends_line(byte: Option<&u8>) -> bool {
-    match byte {
-        Some(byte) => *byte == b'\n',
-        None => true,
-    }
-}
-
-/// Whether a writer with so much room takes whole lines of a text, or all of a line but its line feed.
-pub fn fails_at_line(text: &[u8], room: usize) -> bool {
-    ends_line(text.get(room)) || ends_line(text.get(room.wrapping_sub(1)))
-}
-
 /// Gives its bytes, and then fails.
 #[derive(Drop)]
 struct Broken<'a> {
@@ -181,164 +177,217 @@ impl Read for Broken<'_> {
     }
 }
 
+const SHOW: &[&str] = &["mls", "show", "FILE"];
+
+/// The KeyPackage between blanks, with a byte behind it.
+const LONGER: &str =
+    "\r\n\t 000100050001f00101aa01bb01cc000103626f6202000102f0010000020001010000000000000000ffffffffffffffff0001dd0001ee00\n";
+
+/// The KeyPackage without its last byte.
+const CUT: &str =
+    "000100050001f00101aa01bb01cc000103626f6202000102f0010000020001010000000000000000ffffffffffffffff0001dd0001";
+
+const KEY_PACKAGES: &[FileCase] = &[
+    (KEY_PACKAGE, 0, TEXT),
+    (LONGER, 1, "refused: 3 Trailing\n"),
+    (CUT, 1, "refused: 2 Truncated\n"),
+    (
+        "000100050002f00101aa01bb01cc000103626f6202000102f0010000020001010000000000000000ffffffffffffffff0001dd0001ee",
+        1,
+        "refused: 7 BadTag\n",
+    ),
+    (
+        "000100050001f00101aa01bb01cc000203626f6202000102f0010000020001010000000000000000ffffffffffffffff0001dd0001ee",
+        1,
+        "refused: 11 UnsupportedCredential\n",
+    ),
+    ("0", 1, "refused: 8 NotHex\n"),
+    ("zz", 1, "refused: 8 NotHex\n"),
+];
+
 #[test]
 fn shows_and_refuses(rt: HostRuntime) -> Result<(), Fail> {
-    let alloc = rt.alloc();
-    let longer = format!(in alloc; "\r\n\t {KEY_PACKAGE}00\n")?;
-    let table: [(&str, u8, &str); 7] = [
-        (KEY_PACKAGE, 0, TEXT),
-        (longer.as_str(), 1, "refused: 3 Trailing\n"),
-        (&KEY_PACKAGE[..106], 1, "refused: 2 Truncated\n"),
-        (
-            "000100050002f00101aa01bb01cc000103626f6202000102f0010000020001010000000000000000ffffffffffffffff0001dd0001ee",
-            1,
-            "refused: 7 BadTag\n",
-        ),
-        (
-            "000100050001f00101aa01bb01cc000203626f6202000102f0010000020001010000000000000000ffffffffffffffff0001dd0001ee",
-            1,
-            "refused: 11 UnsupportedCredential\n",
-        ),
-        ("0", 1, "refused: 8 NotHex\n"),
-        ("zz", 1, "refused: 8 NotHex\n"),
-    ];
-    let words = ["mls", "show", "FILE"];
-    for (file, status, text) in table {
-        let (answer, out) = serve_file(alloc, words.as_slice(), file.as_bytes())?;
-        assert_eq!(rt; answer, status);
-        assert!(rt; out.as_slice() == text.as_bytes());
-    }
+    assert_eq!(rt;
+        count_met_by(rt.alloc(), SHOW, KEY_PACKAGES)?,
+        KEY_PACKAGES.len()
+    );
     Ok(())
 }
 
+const KINDS: &[FileCase] = &[
+    (
+        "00010001016700000000000000000100000002000200030000000501aa01bb",
+        0,
+        "message: public_message\nbytes: 31\ngroup_id: 67\nepoch: 0\nsender: 2\nauthenticated_data: -\ncontent: proposal\nproposal: remove\nremoved: 5\nsignature: aa\nmembership_tag: bb\n",
+    ),
+    (
+        "00010001016700000000000000000200000002000200030000000501aa01bb",
+        1,
+        "refused: 7 BadTag\n",
+    ),
+    (
+        "000100010167000000000000000001000000020003000001aa01cc01bb",
+        0,
+        "message: public_message\nbytes: 29\ngroup_id: 67\nepoch: 0\nsender: 2\nauthenticated_data: -\ncontent: commit\nproposals: 0\npath_nodes: none\nsignature: aa\nconfirmation_tag: cc\nmembership_tag: bb\n",
+    ),
+    (
+        "00010001016700000000000000000100000002000102686901aa01bb",
+        0,
+        "message: public_message\nbytes: 28\ngroup_id: 67\nepoch: 0\nsender: 2\nauthenticated_data: -\ncontent: application\ndata: 6869\nsignature: aa\nmembership_tag: bb\n",
+    ),
+    (
+        "000100010167000000000000000001000000020002000201bb01cc000103626f6202000102f00100000200010302abcd0001dd01aa01bb",
+        0,
+        "message: public_message\nbytes: 55\ngroup_id: 67\nepoch: 0\nsender: 2\nauthenticated_data: -\ncontent: proposal\nproposal: update\nleaf.encryption_key: bb\nleaf.signature_key: cc\nleaf.identity: 626f62\nleaf.versions: 0001\nleaf.cipher_suites: f001\nleaf.extensions: -\nleaf.proposals: -\nleaf.credentials: 0001\nleaf.source: commit\nleaf.parent_hash: abcd\nleaf.signature: dd\nsignature: aa\nmembership_tag: bb\n",
+    ),
+    (
+        "00010001016700000000000000000100000002000200010001f00101aa01bb01cc000103626f6202000102f0010000020001010000000000000000ffffffffffffffff0001dd0001ee01aa01bb",
+        0,
+        "message: public_message\nbytes: 77\ngroup_id: 67\nepoch: 0\nsender: 2\nauthenticated_data: -\ncontent: proposal\nproposal: add\nadd.cipher_suite: f001\nadd.init_key: aa\nadd.leaf.encryption_key: bb\nadd.leaf.signature_key: cc\nadd.leaf.identity: 626f62\nadd.leaf.versions: 0001\nadd.leaf.cipher_suites: f001\nadd.leaf.extensions: -\nadd.leaf.proposals: -\nadd.leaf.credentials: 0001\nadd.leaf.source: key_package\nadd.leaf.not_before: 0\nadd.leaf.not_after: 18446744073709551615\nadd.leaf.signature: dd\nadd.signature: ee\nsignature: aa\nmembership_tag: bb\n",
+    ),
+    (
+        "00010003f0010000",
+        0,
+        "message: welcome\nbytes: 8\ncipher_suite: f001\nnew_members: 0\ngroup_info_bytes: 0\n",
+    ),
+    (
+        "00010003f0010702abcd01ee01ff03010203",
+        0,
+        "message: welcome\nbytes: 18\ncipher_suite: f001\nnew_members: 1\nnew_member: abcd\ngroup_info_bytes: 3\n",
+    ),
+    (
+        "000100040001f0010167000000000000000020111111111111111111111111111111111111111111111111111111111111111100000001cc0000000301dd",
+        0,
+        "message: group_info\nbytes: 62\ncipher_suite: f001\ngroup_id: 67\nepoch: 0\ntree_hash: 1111111111111111111111111111111111111111111111111111111111111111\nconfirmed_transcript_hash: -\ntree_nodes: none\nconfirmation_tag: cc\nsigner: 3\nsignature: dd\n",
+    ),
+    (
+        "000100040001f0010167000000000000000020111111111111111111111111111111111111111111111111111111111111111100002f00022c2b010101bb01cc000103626f6202000102f0010000020001010000000000000000ffffffffffffffff0001dd01cc0000000301dd",
+        0,
+        "message: group_info\nbytes: 109\ncipher_suite: f001\ngroup_id: 67\nepoch: 0\ntree_hash: 1111111111111111111111111111111111111111111111111111111111111111\nconfirmed_transcript_hash: -\ntree_nodes: 1\nconfirmation_tag: cc\nsigner: 3\nsignature: dd\n",
+    ),
+];
+
 #[test]
 fn shows_each_kind(rt: HostRuntime) -> Result<(), Fail> {
-    let alloc = rt.alloc();
-    let table: [(&str, u8, &str); 10] = [
-        (
-            "00010001016700000000000000000100000002000200030000000501aa01bb",
-            0,
-            "message: public_message\nbytes: 31\ngroup_id: 67\nepoch: 0\nsender: 2\nauthenticated_data: -\ncontent: proposal\nproposal: remove\nremoved: 5\nsignature: aa\nmembership_tag: bb\n",
-        ),
-        (
-            "00010001016700000000000000000200000002000200030000000501aa01bb",
-            1,
-            "refused: 7 BadTag\n",
-        ),
-        (
-            "000100010167000000000000000001000000020003000001aa01cc01bb",
-            0,
-            "message: public_message\nbytes: 29\ngroup_id: 67\nepoch: 0\nsender: 2\nauthenticated_data: -\ncontent: commit\nproposals: 0\npath_nodes: none\nsignature: aa\nconfirmation_tag: cc\nmembership_tag: bb\n",
-        ),
-        (
-            "00010001016700000000000000000100000002000102686901aa01bb",
-            0,
-            "message: public_message\nbytes: 28\ngroup_id: 67\nepoch: 0\nsender: 2\nauthenticated_data: -\ncontent: application\ndata: 6869\nsignature: aa\nmembership_tag: bb\n",
-        ),
-        (
-            "000100010167000000000000000001000000020002000201bb01cc000103626f6202000102f00100000200010302abcd0001dd01aa01bb",
-            0,
-            "message: public_message\nbytes: 55\ngroup_id: 67\nepoch: 0\nsender: 2\nauthenticated_data: -\ncontent: proposal\nproposal: update\nleaf.encryption_key: bb\nleaf.signature_key: cc\nleaf.identity: 626f62\nleaf.versions: 0001\nleaf.cipher_suites: f001\nleaf.extensions: -\nleaf.proposals: -\nleaf.credentials: 0001\nleaf.source: commit\nleaf.parent_hash: abcd\nleaf.signature: dd\nsignature: aa\nmembership_tag: bb\n",
-        ),
-        (
-            "00010001016700000000000000000100000002000200010001f00101aa01bb01cc000103626f6202000102f0010000020001010000000000000000ffffffffffffffff0001dd0001ee01aa01bb",
-            0,
-            "message: public_message\nbytes: 77\ngroup_id: 67\nepoch: 0\nsender: 2\nauthenticated_data: -\ncontent: proposal\nproposal: add\nadd.cipher_suite: f001\nadd.init_key: aa\nadd.leaf.encryption_key: bb\nadd.leaf.signature_key: cc\nadd.leaf.identity: 626f62\nadd.leaf.versions: 0001\nadd.leaf.cipher_suites: f001\nadd.leaf.extensions: -\nadd.leaf.proposals: -\nadd.leaf.credentials: 0001\nadd.leaf.source: key_package\nadd.leaf.not_before: 0\nadd.leaf.not_after: 18446744073709551615\nadd.leaf.signature: dd\nadd.signature: ee\nsignature: aa\nmembership_tag: bb\n",
-        ),
-        (
-            "00010003f0010000",
-            0,
-            "message: welcome\nbytes: 8\ncipher_suite: f001\nnew_members: 0\ngroup_info_bytes: 0\n",
-        ),
-        (
-            "00010003f0010702abcd01ee01ff03010203",
-            0,
-            "message: welcome\nbytes: 18\ncipher_suite: f001\nnew_members: 1\nnew_member: abcd\ngroup_info_bytes: 3\n",
-        ),
-        (
-            "000100040001f0010167000000000000000020111111111111111111111111111111111111111111111111111111111111111100000001cc0000000301dd",
-            0,
-            "message: group_info\nbytes: 62\ncipher_suite: f001\ngroup_id: 67\nepoch: 0\ntree_hash: 1111111111111111111111111111111111111111111111111111111111111111\nconfirmed_transcript_hash: -\ntree_nodes: none\nconfirmation_tag: cc\nsigner: 3\nsignature: dd\n",
-        ),
-        (
-            "000100040001f0010167000000000000000020111111111111111111111111111111111111111111111111111111111111111100002f00022c2b010101bb01cc000103626f6202000102f0010000020001010000000000000000ffffffffffffffff0001dd01cc0000000301dd",
-            0,
-            "message: group_info\nbytes: 109\ncipher_suite: f001\ngroup_id: 67\nepoch: 0\ntree_hash: 1111111111111111111111111111111111111111111111111111111111111111\nconfirmed_transcript_hash: -\ntree_nodes: 1\nconfirmation_tag: cc\nsigner: 3\nsignature: dd\n",
-        ),
-    ];
-    let words = ["mls", "show", "FILE"];
-    for (file, status, text) in table {
-        let (answer, out) = serve_file(alloc, words.as_slice(), file.as_bytes())?;
-        assert_eq!(rt; answer, status);
-        assert!(rt; out.as_slice() == text.as_bytes());
-    }
+    assert_eq!(rt; count_met_by(rt.alloc(), SHOW, KINDS)?, KINDS.len());
     Ok(())
+}
+
+/// A message with these digits as its data.
+fn long_message(alloc: Global, digits: &str) -> Result<String, AllocError> {
+    format!(in alloc; "0001000101670000000000000000010000000200015388{digits}01aa01bb")
+}
+
+/// What is shown of it.
+fn long_text(alloc: Global, digits: &str) -> Result<String, AllocError> {
+    format!(in alloc;
+        "message: public_message\nbytes: 5027\ngroup_id: 67\nepoch: 0\nsender: 2\nauthenticated_data: -\ncontent: application\ndata: {digits}\nsignature: aa\nmembership_tag: bb\n"
+    )
+}
+
+fn is_shown_whole(alloc: Global) -> Result<bool, AllocError> {
+    let digits = repeat_text(alloc, "6a", 5000)?;
+    let file = long_message(alloc, digits.as_str())?;
+    let text = long_text(alloc, digits.as_str())?;
+    is_met(alloc, SHOW, file.as_bytes(), 0, text.as_bytes())
 }
 
 /// A text longer than what one write of the system may take is written whole.
 #[test]
 fn shows_long_texts(rt: HostRuntime) -> Result<(), Fail> {
-    let alloc = rt.alloc();
-    let digits = repeat_text(alloc, "6a", 5000)?;
-    let file = format!(in alloc; "0001000101670000000000000000010000000200015388{digits}01aa01bb")?;
-    let text = format!(in alloc;
-        "message: public_message\nbytes: 5027\ngroup_id: 67\nepoch: 0\nsender: 2\nauthenticated_data: -\ncontent: application\ndata: {digits}\nsignature: aa\nmembership_tag: bb\n"
-    )?;
-    let words = ["mls", "show", "FILE"];
-    let (status, out) = serve_file(alloc, words.as_slice(), file.as_bytes())?;
-    assert_eq!(rt; status, 0);
-    assert!(rt; out.as_slice() == text.as_bytes());
+    assert!(rt; is_shown_whole(rt.alloc())?);
     Ok(())
 }
+
+/// Words with no file: the status, what is printed, and what is said.
+type Words<'a> = (&'a [&'a str], u8, &'a str, &'a str);
+
+/// Whether this is left where no file can be opened.
+fn is_left(
+    alloc: Global,
+    request: &Result<Request<'_>, NoJob>,
+    status: u8,
+    text: &str,
+    said: &str,
+) -> Result<bool, AllocError> {
+    let left = serve_words(alloc, request, None)?;
+    Ok(
+        left.status == status
+            && left.out.as_slice() == text.as_bytes()
+            && left.err.as_slice() == said.as_bytes(),
+    )
+}
+
+fn is_left_by(
+    alloc: Global,
+    words: &[&str],
+    status: u8,
+    text: &str,
+    said: &str,
+) -> Result<bool, AllocError> {
+    is_left(alloc, &request_of(alloc, words), status, text, said)
+}
+
+/// How many leave what they should, from the first on.
+fn count_left(alloc: Global, cases: &[Words<'_>]) -> Result<usize, AllocError> {
+    for i in 0..cases.len() {
+        let (words, status, text, said) = cases[i];
+        if !is_left_by(alloc, words, status, text, said)? {
+            return Ok(i);
+        }
+    }
+    Ok(cases.len())
+}
+
+const WRONG: &[Words] = &[
+    (&["mls", "show", "FILE"], 3, "", "mls: cannot read FILE\n"),
+    (
+        &["mls", "vectors", "FILE"],
+        3,
+        "",
+        "mls: cannot read FILE\n",
+    ),
+    (&["mls", "show"], 2, "", USAGE),
+    (&["mls", "replay", "FILE"], 3, "", "mls: cannot read FILE\n"),
+    (&["mls", "export", "FILE"], 2, "", UNKNOWN),
+];
 
 #[test]
 fn says_what_is_wrong(rt: HostRuntime) -> Result<(), Fail> {
-    let alloc = rt.alloc();
-    let table: [(&[&str], u8, &str); 5] = [
-        (&["mls", "show", "FILE"], 3, "mls: cannot read FILE\n"),
-        (&["mls", "vectors", "FILE"], 3, "mls: cannot read FILE\n"),
-        (&["mls", "show"], 2, USAGE),
-        (&["mls", "replay", "FILE"], 3, "mls: cannot read FILE\n"),
-        (&["mls", "export", "FILE"], 2, UNKNOWN),
-    ];
-    for (words, status, text) in table {
-        let left = serve_words(alloc, &request(alloc, words), None)?;
-        assert_eq!(rt; left.status, status);
-        assert!(rt; left.out.is_empty());
-        assert!(rt; left.err.as_slice() == text.as_bytes());
-    }
-    let left = serve_words(alloc, &Err(no_text(alloc)), None)?;
-    assert_eq!(rt; left.status, 2);
-    assert!(rt; left.out.is_empty());
-    assert!(rt; left.err.as_slice() == NO_TEXT.as_bytes());
+    assert_eq!(rt; count_left(rt.alloc(), WRONG)?, WRONG.len());
     Ok(())
 }
+
+/// Whether it is said of words that are no text.
+fn is_no_text(alloc: Global) -> Result<bool, AllocError> {
+    is_left(alloc, &Err(no_text(alloc)), 2, "", NO_TEXT)
+}
+
+#[test]
+fn says_what_is_no_text(rt: HostRuntime) -> Result<(), Fail> {
+    assert!(rt; is_no_text(rt.alloc())?);
+    Ok(())
+}
+
+const HELPS: &[Words] = &[
+    (&["mls", "--help"], 0, HELP, ""),
+    (&["mls", "help", "show"], 0, SHOW_HELP, ""),
+    (&["mls", "show", "--help"], 0, SHOW_HELP, ""),
+    (&["mls", "check", "--help"], 0, CHECK_HELP, ""),
+    (&["mls", "replay", "--help"], 0, REPLAY_HELP, ""),
+    (&["mls", "vectors", "-h"], 0, VECTORS_HELP, ""),
+    (&["mls", "--version"], 0, "mls 0.1.0\n", ""),
+    (&["mls", "-V"], 0, "mls 0.1.0\n", ""),
+];
 
 #[test]
 fn prints_help(rt: HostRuntime) -> Result<(), Fail> {
-    let alloc = rt.alloc();
-    let table: [(&[&str], &str); 8] = [
-        (&["mls", "--help"], HELP),
-        (&["mls", "help", "show"], SHOW_HELP),
-        (&["mls", "show", "--help"], SHOW_HELP),
-        (&["mls", "check", "--help"], CHECK_HELP),
-        (&["mls", "replay", "--help"], REPLAY_HELP),
-        (&["mls", "vectors", "-h"], VECTORS_HELP),
-        (&["mls", "--version"], "mls 0.1.0\n"),
-        (&["mls", "-V"], "mls 0.1.0\n"),
-    ];
-    for (words, text) in table {
-        let left = serve_words(alloc, &request(alloc, words), None)?;
-        assert_eq!(rt; left.status, 0);
-        assert!(rt; left.out.as_slice() == text.as_bytes());
-        assert!(rt; left.err.is_empty());
-    }
+    assert_eq!(rt; count_left(rt.alloc(), HELPS)?, HELPS.len());
     Ok(())
 }
 
-#[test]
-fn says_that_memory_is_wanting(rt: HostRuntime) -> Result<(), Fail> {
-    let alloc = rt.alloc();
+/// Whether it is said that memory is wanting. The errors' own `Vec` may want memory too.
+fn is_wanting(alloc: Global) -> bool {
     let mut none: Option<&[u8]> = None;
     let mut out = Vec::new(alloc);
     let mut held = Vec::new(alloc);
@@ -349,80 +398,59 @@ fn says_that_memory_is_wanting(rt: HostRuntime) -> Result<(), Fail> {
         &mut out,
         &mut held,
     );
-    assert_eq!(rt; status, 3);
-    assert!(rt; out.is_empty());
-    // The errors' own `Vec` may want memory too.
-    assert!(rt; held.as_slice() == OUT_OF_MEMORY.as_bytes() || held.is_empty());
-    Ok(())
+    let said = held.as_slice() == OUT_OF_MEMORY.as_bytes() || held.is_empty();
+    status == 3 && out.is_empty() && said
+}
+
+#[test]
+fn says_that_memory_is_wanting(rt: HostRuntime) {
+    assert!(rt; is_wanting(rt.alloc()));
 }
 
 #[test]
 fn stops_where_a_write_fails(rt: HostRuntime) -> Result<(), Fail> {
-    let alloc = rt.alloc();
-    let words: [&[&str]; 2] = [&["mls", "show", "FILE"], &["mls", "--help"]];
-    for (words, text) in words.into_iter().zip([TEXT, HELP]) {
-        let request = request(alloc, words);
-        // The last room takes all of the text.
-        for room in 0..text.len() + 1 {
-            if !fails_at_line(text.as_bytes(), room) {
-                continue;
-            }
-            let mut full = with_room(alloc, room)?;
-            let mut file = Some(KEY_PACKAGE.as_bytes());
-            let mut held = Vec::new(alloc);
-            let status = serve_silently(
-                alloc,
-                &request,
-                &mut file,
-                &mut Out::new(&mut full),
-                &mut held,
-            );
-            unless_out_of_memory(status, held.as_slice())?;
-            assert_eq!(rt; status, if room < text.len() { 3 } else { 0 });
-            assert!(rt; full.held.as_slice() == &text.as_bytes()[..room]);
-            assert!(rt; held.is_empty());
-        }
-    }
+    assert!(rt; is_cut_at_lines(rt.alloc(), SHOW, KEY_PACKAGE, TEXT, 0)?);
+    assert!(rt; is_cut_at_lines(rt.alloc(), &["mls", "--help"], KEY_PACKAGE, HELP, 0)?);
     Ok(())
 }
 
 #[test]
 fn stops_where_a_read_fails(rt: HostRuntime) -> Result<(), Fail> {
-    let alloc = rt.alloc();
-    let words = ["mls", "show", "FILE"];
-    let request = request(alloc, words.as_slice());
-    for given in 0..KEY_PACKAGE.len() + 1 {
-        let mut out = Vec::new(alloc);
-        let mut held = Vec::new(alloc);
-        let mut broken = Some(In::new(Broken {
-            rest: &KEY_PACKAGE.as_bytes()[..given],
-        }));
-        let status = serve_silently(alloc, &request, &mut broken, &mut out, &mut held);
-        unless_out_of_memory(status, held.as_slice())?;
-        assert_eq!(rt; status, 3);
-        assert!(rt; out.is_empty());
-        assert!(rt; held.as_slice() == b"mls: cannot read FILE\n".as_slice());
-    }
+    assert!(rt; is_unread_at_each(rt.alloc(), SHOW, KEY_PACKAGE)?);
     Ok(())
+}
+
+/// What is said where the file can't be opened.
+const UNREAD: &str = "mls: cannot read FILE\n";
+
+/// Whether it is said as far as there is room.
+fn is_said_within(
+    alloc: Global,
+    request: &Result<Request<'_>, NoJob>,
+    room: usize,
+) -> Result<bool, AllocError> {
+    let left = serve_with_errors(alloc, request, None, room)?;
+    if let Err(NoJob::OutOfMemory) = request {
+        return Err(AllocError);
+    }
+    Ok(left.is(3, "", UNREAD, room))
+}
+
+fn is_said_by(alloc: Global, request: &Result<Request<'_>, NoJob>) -> Result<bool, AllocError> {
+    for room in 0..UNREAD.len() + 1 {
+        if !is_said_within(alloc, request, room)? {
+            return Ok(false);
+        }
+    }
+    Ok(true)
+}
+
+fn is_said(alloc: Global) -> Result<bool, AllocError> {
+    is_said_by(alloc, &request_of(alloc, SHOW))
 }
 
 #[test]
 fn says_what_fails_as_far_as_it_can(rt: HostRuntime) -> Result<(), Fail> {
-    let alloc = rt.alloc();
-    let text = b"mls: cannot read FILE\n";
-    let words = ["mls", "show", "FILE"];
-    let request = request(alloc, words.as_slice());
-    for room in 0..text.len() + 1 {
-        let mut none: Option<&[u8]> = None;
-        let mut out = Vec::new(alloc);
-        let mut full = with_room(alloc, room)?;
-        let status = serve_silently(alloc, &request, &mut none, &mut out, &mut full);
-        if let Err(NoJob::OutOfMemory) = &request {
-            return Err(Fail::from(AllocError));
-        }
-        assert_eq!(rt; status, 3);
-        assert!(rt; out.is_empty());
-        assert!(rt; full.held.as_slice() == &text.as_slice()[..room]);
-    }
+    assert!(rt; is_said(rt.alloc())?);
     Ok(())
 }

@@ -1,9 +1,11 @@
-//! Worked candidates, messages, joins, paths, pairs of members, and what is saved and loaded of them, which run under the
-//! practice suite.
+//! Worked candidates, messages, joins, paths, pairs of members, what is saved and loaded of them, conversations, and worlds:
+//! tests alone, above the crates that they use. They stand in one crate, which proves once how members are dropped.
 #![tactic(auto)]
 
 #[cfg(test)]
 mod candidates;
+#[cfg(test)]
+mod conversations;
 #[cfg(test)]
 mod creations;
 #[cfg(test)]
@@ -28,3 +30,5 @@ mod shared;
 mod sole;
 #[cfg(test)]
 mod views;
+#[cfg(test)]
+mod worlds;

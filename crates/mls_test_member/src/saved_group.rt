@@ -55,32 +55,28 @@ fn reload_member(alloc: Global, member: &Member<Glass>) -> Result<Box<Member<Gla
     Ok(Box::new(alloc, member)?)
 }
 
-/// A member after an event.
-fn keep(
-    alloc: Global,
-    keeping: Keeping,
-    member: Box<Member<Glass>>,
-) -> Result<Box<Member<Glass>>, Fail> {
+/// Keeps a member after an event.
+fn keep(alloc: Global, keeping: Keeping, member: &mut Box<Member<Glass>>) -> Result<(), Fail> {
     match keeping {
-        Keeping::Held => Ok(member),
-        Keeping::Reloaded => reload_member(alloc, &member),
+        Keeping::Held => Ok(()),
+        Keeping::Reloaded => {
+            *member = reload_member(alloc, member)?;
+            Ok(())
+        }
     }
 }
 
-/// Three members after an event.
-fn keep_all(alloc: Global, keeping: Keeping, group: Group) -> Result<Group, Fail> {
-    Ok(Group {
-        alice: keep(alloc, keeping, group.alice)?,
-        bob: keep(alloc, keeping, group.bob)?,
-        carol: keep(alloc, keeping, group.carol)?,
-    })
+/// Keeps three members after an event.
+fn keep_all(alloc: Global, keeping: Keeping, group: &mut Group) -> Result<(), Fail> {
+    keep(alloc, keeping, &mut group.alice)?;
+    keep(alloc, keeping, &mut group.bob)?;
+    keep(alloc, keeping, &mut group.carol)
 }
 
 /// The first member of the group "g".
-fn create(alloc: Global, keeping: Keeping) -> Result<Box<Member<Glass>>, Fail> {
-    let candidate = candidate(alloc, keeping, b"alice", 1)?;
-    let member = Member::create(alloc, &candidate, b"g", &[4; 32])?;
-    keep(alloc, keeping, Box::new(alloc, member)?)
+fn create(alloc: Global, candidate: &Candidate<Glass>) -> Result<Box<Member<Glass>>, Fail> {
+    let member = Member::create(alloc, candidate, b"g", &[4; 32])?;
+    Ok(Box::new(alloc, member)?)
 }
 
 /// A member follows a message, and the effect is let go.
@@ -111,78 +107,160 @@ fn add(
     Ok(member.commit(&items, true, &[seed; 32])?)
 }
 
-/// Alice creates the group, and adds bob and then carol.
-pub(crate) fn three(alloc: Global, keeping: Keeping) -> Result<Group, Fail> {
-    let mut alice = create(alloc, keeping)?;
+/// A member adds a candidate, is kept, and follows.
+fn add_and_follow(
+    alloc: Global,
+    keeping: Keeping,
+    member: &mut Box<Member<Glass>>,
+    candidate: &Candidate<Glass>,
+    seed: u8,
+) -> Result<Made, Fail> {
+    let made = add(alloc, member, candidate, seed)?;
+    keep(alloc, keeping, member)?;
+    follow(member, &made.commit)?;
+    Ok(made)
+}
+
+/// Bob, whom alice adds.
+fn admit_bob(
+    alloc: Global,
+    keeping: Keeping,
+    alice: &mut Box<Member<Glass>>,
+) -> Result<Box<Member<Glass>>, Fail> {
     let bob = candidate(alloc, keeping, b"bob", 2)?;
-    let made = add(alloc, &mut alice, &bob, 5)?;
-    let mut alice = keep(alloc, keeping, alice)?;
-    follow(&mut alice, &made.commit)?;
-    let bob = join(alloc, &bob, made.welcome)?;
-    add_carol(alloc, keeping, alice, bob)
+    let made = add_and_follow(alloc, keeping, alice, &bob, 5)?;
+    join(alloc, &bob, made.welcome)
+}
+
+/// Carol, whom alice adds, as bob follows.
+fn admit_carol(
+    alloc: Global,
+    keeping: Keeping,
+    alice: &mut Box<Member<Glass>>,
+    bob: &mut Member<Glass>,
+) -> Result<Box<Member<Glass>>, Fail> {
+    let carol = candidate(alloc, keeping, b"carol", 3)?;
+    let made = add_and_follow(alloc, keeping, alice, &carol, 6)?;
+    follow(bob, &made.commit)?;
+    join(alloc, &carol, made.welcome)
+}
+
+/// Alice, who creates the group.
+fn create_alice(alloc: Global, keeping: Keeping) -> Result<Box<Member<Glass>>, Fail> {
+    let candidate = candidate(alloc, keeping, b"alice", 1)?;
+    let mut alice = create(alloc, &candidate)?;
+    keep(alloc, keeping, &mut alice)?;
+    Ok(alice)
 }
 
 /// Alice adds carol to the group.
-fn add_carol(
+fn with_carol(
     alloc: Global,
     keeping: Keeping,
     alice: Box<Member<Glass>>,
     bob: Box<Member<Glass>>,
 ) -> Result<Group, Fail> {
-    let mut alice = keep(alloc, keeping, alice)?;
-    let mut bob = keep(alloc, keeping, bob)?;
-    let carol = candidate(alloc, keeping, b"carol", 3)?;
-    let made = add(alloc, &mut alice, &carol, 6)?;
-    let mut alice = keep(alloc, keeping, alice)?;
-    follow(&mut alice, &made.commit)?;
-    follow(&mut bob, &made.commit)?;
-    let carol = join(alloc, &carol, made.welcome)?;
-    keep_all(alloc, keeping, Group { alice, bob, carol })
+    let (mut alice, mut bob) = (alice, bob);
+    keep(alloc, keeping, &mut alice)?;
+    keep(alloc, keeping, &mut bob)?;
+    let carol = admit_carol(alloc, keeping, &mut alice, &mut bob)?;
+    Ok(Group { alice, bob, carol })
 }
 
-/// All follow a message.
-fn deliver(alloc: Global, keeping: Keeping, group: Group, message: &[u8]) -> Result<Group, Fail> {
-    let mut group = group;
+/// Alice creates the group, and adds bob and then carol.
+pub(crate) fn three(alloc: Global, keeping: Keeping) -> Result<Group, Fail> {
+    let mut alice = create_alice(alloc, keeping)?;
+    let bob = admit_bob(alloc, keeping, &mut alice)?;
+    let mut group = with_carol(alloc, keeping, alice, bob)?;
+    keep_all(alloc, keeping, &mut group)?;
+    Ok(group)
+}
+
+/// All follow a message, and are kept.
+fn deliver(alloc: Global, keeping: Keeping, group: &mut Group, message: &[u8]) -> Result<(), Fail> {
     follow(&mut group.alice, message)?;
     follow(&mut group.bob, message)?;
     follow(&mut group.carol, message)?;
     keep_all(alloc, keeping, group)
 }
 
-/// Bob proposes an update, alice commits it, carol proposes to remove bob, and alice commits that. The messages are added.
-fn speak(alloc: Global, keeping: Keeping, group: Group, said: &mut Vec<u8>) -> Result<Group, Fail> {
-    let mut group = group;
-    let update = group.bob.propose_update(&[7; 32])?;
-    said.extend_from_slice(&update)?;
-    let mut group = deliver(alloc, keeping, keep_all(alloc, keeping, group)?, &update)?;
-    let made = group.alice.commit_kept(true, &[8; 32])?.made;
-    said.extend_from_slice(&made.commit)?;
-    let mut group = deliver(
-        alloc,
-        keeping,
-        keep_all(alloc, keeping, group)?,
-        &made.commit,
-    )?;
-    let removal = group.carol.propose_remove(1)?;
-    said.extend_from_slice(&removal)?;
-    let mut group = deliver(alloc, keeping, keep_all(alloc, keeping, group)?, &removal)?;
-    let made = group.alice.commit_kept(true, &[9; 32])?.made;
-    said.extend_from_slice(&made.commit)?;
-    deliver(
-        alloc,
-        keeping,
-        keep_all(alloc, keeping, group)?,
-        &made.commit,
-    )
+/// A message is added, and once all are kept they follow it.
+fn hear(
+    alloc: Global,
+    keeping: Keeping,
+    group: &mut Group,
+    said: &mut Vec<u8>,
+    message: &[u8],
+) -> Result<(), Fail> {
+    said.extend_from_slice(message)?;
+    keep_all(alloc, keeping, group)?;
+    deliver(alloc, keeping, group, message)
+}
+
+fn update(member: &mut Member<Glass>) -> Result<Vec<u8>, Fail> {
+    Ok(member.propose_update(&[7; 32])?)
+}
+
+fn removal(member: &mut Member<Glass>) -> Result<Vec<u8>, Fail> {
+    Ok(member.propose_remove(1)?)
+}
+
+/// A member's commit of what it keeps.
+fn commit_kept(member: &mut Member<Glass>, seed: u8) -> Result<Vec<u8>, Fail> {
+    Ok(member.commit_kept(true, &[seed; 32])?.made.commit)
+}
+
+/// Bob proposes an update, and alice commits it. The messages are added.
+fn speak_of_update(
+    alloc: Global,
+    keeping: Keeping,
+    group: &mut Group,
+    said: &mut Vec<u8>,
+) -> Result<(), Fail> {
+    let update = update(&mut group.bob)?;
+    hear(alloc, keeping, group, said, &update)?;
+    let commit = commit_kept(&mut group.alice, 8)?;
+    hear(alloc, keeping, group, said, &commit)
+}
+
+/// Carol proposes to remove bob, and alice commits that. The messages are added.
+fn speak_of_removal(
+    alloc: Global,
+    keeping: Keeping,
+    group: &mut Group,
+    said: &mut Vec<u8>,
+) -> Result<(), Fail> {
+    let removal = removal(&mut group.carol)?;
+    hear(alloc, keeping, group, said, &removal)?;
+    let commit = commit_kept(&mut group.alice, 9)?;
+    hear(alloc, keeping, group, said, &commit)
+}
+
+/// Adds what a member is saved as.
+fn add_saved(member: &Member<Glass>, said: &mut Vec<u8>) -> Result<(), Fail> {
+    let bytes = member.save()?;
+    said.extend_from_slice(&bytes)?;
+    Ok(())
+}
+
+/// Adds what three members say, and then what each is saved as.
+fn add_history(
+    alloc: Global,
+    keeping: Keeping,
+    group: &mut Group,
+    said: &mut Vec<u8>,
+) -> Result<(), Fail> {
+    speak_of_update(alloc, keeping, group, said)?;
+    speak_of_removal(alloc, keeping, group, said)?;
+    add_saved(&group.alice, said)?;
+    add_saved(&group.bob, said)?;
+    add_saved(&group.carol, said)
 }
 
 /// What three members say, and then what each is saved as.
 pub(crate) fn history(alloc: Global, keeping: Keeping) -> Result<Vec<u8>, Fail> {
     let mut said = Vec::new(alloc);
-    let group = three(alloc, keeping)?;
-    let group = speak(alloc, keeping, group, &mut said)?;
-    said.extend_from_slice(&group.alice.save()?)?;
-    said.extend_from_slice(&group.bob.save()?)?;
-    said.extend_from_slice(&group.carol.save()?)?;
+    let mut group = three(alloc, keeping)?;
+    add_history(alloc, keeping, &mut group, &mut said)?;
     Ok(said)
 }

@@ -15,6 +15,28 @@ const SEEDS: Seeds = Seeds {
     renewal: [5; 32],
 };
 
+/// Two members of a group, in a box.
+fn new_pair(alloc: Global) -> Result<Box<Pair<Glass>>, Refusal> {
+    let pair = share(alloc, b"g", &SEEDS)?;
+    Ok(Box::new(alloc, pair)?)
+}
+
+/// A member takes a message, and the effect is let go.
+fn process(member: &mut Member<Glass>, message: &[u8]) -> Result<(), Refusal> {
+    let _effect = member.process(message)?;
+    Ok(())
+}
+
+/// A member's commit with a path.
+fn commit(member: &mut Member<Glass>) -> Result<Vec<u8>, Refusal> {
+    Ok(member.commit(&[], true, &[7; 32])?.commit)
+}
+
+/// A member's update.
+fn update(member: &mut Member<Glass>, seed: u8) -> Result<Vec<u8>, Refusal> {
+    member.propose_update(&[seed; 32])
+}
+
 /// Whether the member's group is that of "alice" at leaf 0 and "bob" at leaf 1.
 fn has_both(member: &Member<Glass>) -> bool {
     let mut members = member.members();
@@ -36,13 +58,19 @@ fn identity_at<'a>(member: &'a Member<Glass>, leaf: u32) -> &'a [u8] {
     }
 }
 
+/// Whether both know who is in the group, and the second knows its own name.
+fn know_each_other(pair: &Pair<Glass>) -> bool {
+    has_both(&pair.first)
+        && has_both(&pair.second)
+        && pair.second.own_identity() == Some(b"bob".as_slice())
+        && identity_at(&pair.second, 0) == b"alice".as_slice()
+        && identity_at(&pair.second, 2) == b"".as_slice()
+}
+
 #[test]
 fn who_is_in_the_group(rt: HostRuntime) -> Result<(), Fail> {
-    let pair: Pair<Glass> = share(rt.alloc(), b"g", &SEEDS)?;
-    assert!(rt; has_both(&pair.first) && has_both(&pair.second));
-    assert_eq!(rt; pair.second.own_identity(), Some(b"bob".as_slice()));
-    assert_eq!(rt; identity_at(&pair.second, 0), b"alice".as_slice());
-    assert_eq!(rt; identity_at(&pair.second, 2), b"".as_slice());
+    let pair = new_pair(rt.alloc())?;
+    assert!(rt; know_each_other(&pair));
     Ok(())
 }
 
@@ -65,15 +93,15 @@ fn keeps_update(member: &Member<Glass>, message: &[u8]) -> bool {
 
 /// The second proposes an update, and the first takes it. Whether both keep it then.
 fn propose(pair: &mut Pair<Glass>) -> Result<bool, Refusal> {
-    let update = pair.second.propose_update(&[6; 32])?;
+    let update = update(&mut pair.second, 6)?;
     let is_none = pair.first.reference_of(&update).is_none();
-    pair.first.process(&update)?;
+    process(&mut pair.first, &update)?;
     Ok(is_none && keeps_update(&pair.first, &update) && keeps_update(&pair.second, &update))
 }
 
 #[test]
 fn what_is_kept(rt: HostRuntime) -> Result<(), Fail> {
-    let mut pair: Pair<Glass> = share(rt.alloc(), b"g", &SEEDS)?;
+    let mut pair = new_pair(rt.alloc())?;
     assert!(rt; propose(&mut pair)?);
     Ok(())
 }
@@ -81,15 +109,15 @@ fn what_is_kept(rt: HostRuntime) -> Result<(), Fail> {
 /// Whether a commit is pending before a commit call, behind it, and once the commit is followed.
 fn pending(member: &mut Member<Glass>) -> Result<(bool, bool, bool), Refusal> {
     let before = member.is_commit_pending();
-    let made = member.commit(&[], true, &[7; 32])?;
+    let commit = commit(member)?;
     let behind = member.is_commit_pending();
-    member.process(&made.commit)?;
+    process(member, &commit)?;
     Ok((before, behind, member.is_commit_pending()))
 }
 
 #[test]
 fn what_is_pending(rt: HostRuntime) -> Result<(), Fail> {
-    let mut pair: Pair<Glass> = share(rt.alloc(), b"g", &SEEDS)?;
+    let mut pair = new_pair(rt.alloc())?;
     assert_eq!(rt; pending(&mut pair.first)?, (false, true, false));
     Ok(())
 }
@@ -104,7 +132,7 @@ fn kind(member: &mut Member<Glass>, bytes: &[u8]) -> Option<RefusalKind> {
 
 #[test]
 fn kinds(rt: HostRuntime) -> Result<(), Fail> {
-    let mut pair: Pair<Glass> = share(rt.alloc(), b"g", &SEEDS)?;
+    let mut pair = new_pair(rt.alloc())?;
     // No bytes; a Welcome of no secrets; its version cut.
     assert_eq!(rt; kind(&mut pair.first, &[]), Some(RefusalKind::Malformed));
     assert_eq!(rt;
@@ -127,40 +155,56 @@ fn follows_inspection(member: &mut Member<Glass>, bytes: &[u8]) -> bool {
 
 /// The first commits with a path, and the second inspects the commit, its first half, and the commit again.
 fn inspect(pair: &mut Pair<Glass>) -> Result<(bool, bool, bool), Refusal> {
-    let made = pair.first.commit(&[], true, &[7; 32])?;
-    let commit = made.commit.as_slice();
+    let commit = commit(&mut pair.first)?;
     let half = follows_inspection(&mut pair.second, &commit[..commit.len() / 2]);
-    let whole = follows_inspection(&mut pair.second, commit);
-    let again = follows_inspection(&mut pair.second, commit);
+    let whole = follows_inspection(&mut pair.second, &commit);
+    let again = follows_inspection(&mut pair.second, &commit);
     Ok((half, whole, again))
 }
 
 #[test]
 fn what_a_message_would_do(rt: HostRuntime) -> Result<(), Fail> {
-    let mut pair: Pair<Glass> = share(rt.alloc(), b"g", &SEEDS)?;
+    let mut pair = new_pair(rt.alloc())?;
     assert_eq!(rt; inspect(&mut pair)?, (true, true, true));
     assert_eq!(rt; message_sender(&[]), None);
     Ok(())
 }
 
-/// Both propose updates, and the first commits what it keeps. Whether it leaves out its own alone, and the second follows.
-fn commit_kept(pair: &mut Pair<Glass>) -> Result<bool, Refusal> {
-    let own = pair.first.propose_update(&[6; 32])?;
-    let update = pair.second.propose_update(&[7; 32])?;
-    pair.first.process(&update)?;
-    let KeptCommit { made, left_out } = pair.first.commit_kept(false, &[8; 32])?;
-    let is_own = match pair.first.reference_of(&own) {
-        Some(reference) => left_out.as_slice() == [*reference].as_slice(),
+/// A member's commit of what it keeps, in a box.
+fn kept(alloc: Global, member: &mut Member<Glass>) -> Result<Box<KeptCommit>, Refusal> {
+    let kept = member.commit_kept(false, &[8; 32])?;
+    Ok(Box::new(alloc, kept)?)
+}
+
+/// Whether a commit leaves out a member's own proposal alone.
+fn leaves_out(member: &Member<Glass>, kept: &KeptCommit, own: &[u8]) -> bool {
+    match member.reference_of(own) {
+        Some(reference) => kept.left_out.as_slice() == [*reference].as_slice(),
         None => false,
-    };
-    pair.second.process(&made.commit)?;
-    Ok(is_own && message_sender(&made.commit) == Some(0))
+    }
+}
+
+/// Both propose updates, which the first has then: its own.
+fn propose_both(pair: &mut Pair<Glass>) -> Result<Vec<u8>, Refusal> {
+    let own = update(&mut pair.first, 6)?;
+    let other = update(&mut pair.second, 7)?;
+    process(&mut pair.first, &other)?;
+    Ok(own)
+}
+
+/// Both propose updates, and the first commits what it keeps. Whether it leaves out its own alone, and the second follows.
+fn commit_kept(alloc: Global, pair: &mut Pair<Glass>) -> Result<bool, Refusal> {
+    let own = propose_both(pair)?;
+    let kept = kept(alloc, &mut pair.first)?;
+    let is_own = leaves_out(&pair.first, &kept, &own);
+    process(&mut pair.second, &kept.made.commit)?;
+    Ok(is_own && message_sender(&kept.made.commit) == Some(0))
 }
 
 #[test]
 fn what_goes_together(rt: HostRuntime) -> Result<(), Fail> {
-    let mut pair: Pair<Glass> = share(rt.alloc(), b"g", &SEEDS)?;
-    assert!(rt; commit_kept(&mut pair)?);
+    let mut pair = new_pair(rt.alloc())?;
+    assert!(rt; commit_kept(rt.alloc(), &mut pair)?);
     assert_eq!(rt; pair.second.epoch(), 3);
     Ok(())
 }

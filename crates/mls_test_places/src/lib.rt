@@ -1,7 +1,12 @@
-//! Where files that are refused have their faults, what recordings are read as, and pages as JSON objects: tests alone,
-//! above the crates that they use. Bytes stand as hex digits.
+//! Where files that are refused have their faults, what recordings are read as, pages as JSON objects, checks of trees and
+//! GroupInfos, and callers that are generic over a suite: tests alone, above the crates that they use. Bytes stand as hex
+//! digits.
 #![tactic(auto)]
 
+#[cfg(test)]
+mod checks;
+#[cfg(test)]
+mod group_infos;
 #[cfg(test)]
 mod json_pages;
 #[cfg(test)]
@@ -14,3 +19,5 @@ mod recordings;
 mod rows;
 #[cfg(test)]
 mod rules;
+#[cfg(test)]
+mod suites;

@@ -5,12 +5,6 @@
 ghost use Rattle.std.specs.Prelude.{◌≡◌, ◌<◌, ◌≤◌, ◌^◌, length, IfOk, Some, option_map, true};
 
 mod bare;
-#[cfg(test)]
-mod checks;
-#[cfg(test)]
-mod group_infos;
-#[cfg(test)]
-mod tests;
 mod trees;
 
 pub use bare::Bare;

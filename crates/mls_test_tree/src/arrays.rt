@@ -1,4 +1,5 @@
-ghost use Rattle.std.specs.Prelude.{◌≡◌, None, IfOk, length, replicate, vec_len};
+ghost use Rattle.std.specs.Prelude.{◌≡◌, ◌^◌, ◌≤◌, None, IfOk, length, replicate, vec_len};
+ghost use Rattle.mls_treemath.specs.Limits.{max_height};
 ghost use Rattle.mls_treemath.specs.Paths.{nodes_in};
 
 use mls_leaf::{Codec, LeafError, LeafNode, Node, ParentNode};
@@ -9,7 +10,7 @@ use mls_tree_array::{
 };
 use mls_tree_cells::Cells;
 use mls_tree_slot::Slot;
-use std::alloc::Global;
+use std::alloc::{AllocError, Global};
 use std::test::*;
 
 const LEAF: [u8; 25] = [
@@ -78,66 +79,139 @@ fn example_cells(alloc: Global) -> Result<Cells, LeafError>
     Ok(Cells::from_slots(example(alloc)?)?)
 }
 
+// The tree of this height over these cells.
+fn tree_of(cells: &Cells, height: u32) -> Subtree<'_>
+    requires shape { length cells.now.nodes ≡ nodes_in height }
+    requires fits { 2 ^ height ≤ 2 ^ 31 }
+{
+    Subtree::of(cells, height)
+}
+
+// What the example resolves to.
+fn whole_resolution(alloc: Global) -> Result<Vec<u64>, LeafError> {
+    let cells = example_cells(alloc)?;
+    let mut out = Vec::new(alloc);
+    resolution(&tree_of(&cells, 3), &mut out)?;
+    Ok(out)
+}
+
+fn add_resolutions(tree: &Subtree<'_>, nodes: &[u32], out: &mut Vec<u64>) -> Result<(), AllocError> {
+    for x in nodes {
+        resolution_at(tree, *x, out)?;
+    }
+    Ok(())
+}
+
+// What the subtrees below these nodes of the example resolve to.
+fn resolutions(alloc: Global, nodes: &[u32]) -> Result<Vec<u64>, LeafError> {
+    let cells = example_cells(alloc)?;
+    let mut out = Vec::new(alloc);
+    add_resolutions(&tree_of(&cells, 3), nodes, &mut out)?;
+    Ok(out)
+}
+
+fn are_reached_at(tree: &Subtree<'_>) -> (bool, bool, bool) {
+    (
+        is_reached_at(tree, 3),
+        is_reached_at(tree, 4),
+        is_reached_at(tree, 15),
+    )
+}
+
+// Whether nodes 3, 4 and 15 of the example are reached; it has no node 15.
+fn are_reached(alloc: Global) -> Result<(bool, bool, bool), LeafError> {
+    let cells = example_cells(alloc)?;
+    Ok(are_reached_at(&tree_of(&cells, 3)))
+}
+
 #[test]
 fn resolutions_of_the_example(rt: HostRuntime) -> Result<(), Fail> {
-    let cells = example_cells(rt.alloc())?;
-    let tree = Subtree::of(&cells, 3);
-    let mut out = Vec::new(rt.alloc());
-    resolution(&tree, &mut out)?;
-    assert_eq!(rt; out.as_slice(), [3, 2, 9, 14].as_slice());
-    out.clear();
-    resolution_at(&tree, 3, &mut out)?;
-    resolution_at(&tree, 4, &mut out)?;
-    resolution_at(&tree, 15, &mut out)?;
-    assert_eq!(rt; out.as_slice(), [3, 2].as_slice());
-    assert!(rt; is_reached_at(&tree, 3));
-    assert!(rt; !is_reached_at(&tree, 4));
-    assert!(rt; !is_reached_at(&tree, 15));
+    assert_eq!(rt; whole_resolution(rt.alloc())?.as_slice(), [3, 2, 9, 14].as_slice());
+    assert_eq!(rt; resolutions(rt.alloc(), &[3, 4, 15])?.as_slice(), [3, 2].as_slice());
+    assert_eq!(rt; are_reached(rt.alloc())?, (true, false, false));
     Ok(())
+}
+
+fn add_paths(tree: &Subtree<'_>, leaves: &[u32], out: &mut Vec<u32>) -> Result<(), AllocError> {
+    for leaf in leaves {
+        filtered_path(tree, *leaf, out)?;
+    }
+    Ok(())
+}
+
+// The filtered paths of these leaves of the example, one behind the other.
+fn paths(alloc: Global, leaves: &[u32]) -> Result<Vec<u32>, LeafError> {
+    let cells = example_cells(alloc)?;
+    let mut out = Vec::new(alloc);
+    add_paths(&tree_of(&cells, 3), leaves, &mut out)?;
+    Ok(out)
 }
 
 #[test]
 fn paths_of_the_example(rt: HostRuntime) -> Result<(), Fail> {
-    let cells = example_cells(rt.alloc())?;
-    let tree = Subtree::of(&cells, 3);
-    let mut out = Vec::new(rt.alloc());
-    for leaf in [0, 3, 7] {
-        filtered_path(&tree, leaf, &mut out)?;
-    }
-    assert_eq!(rt; out.as_slice(), [1, 3, 7, 3, 7, 11, 7].as_slice());
+    assert_eq!(rt; paths(rt.alloc(), &[0, 3, 7])?.as_slice(), [1, 3, 7, 3, 7, 11, 7].as_slice());
     Ok(())
+}
+
+fn members_of(tree: &Subtree<'_>) -> (Option<u32>, bool, u32) {
+    (first_blank(tree, 0), is_reached(tree), member_count(tree))
+}
+
+// The first blank leaf of the example, whether it is reached, and how many members it has.
+fn members(alloc: Global) -> Result<(Option<u32>, bool, u32), LeafError> {
+    let cells = example_cells(alloc)?;
+    Ok(members_of(&tree_of(&cells, 3)))
+}
+
+// Whether the list of its nodes has a leaf.
+fn is_inhabited(alloc: Global) -> Result<bool, LeafError> {
+    let nodes = example(alloc)?;
+    Ok(has_leaf(&nodes, 3))
+}
+
+fn are_taken_in(cells: &Cells, height: u32) -> (bool, bool, bool, bool)
+    requires { length cells.now.nodes ≡ nodes_in height }
+{
+    (
+        leaf(cells, height, 0).is_some(),
+        leaf(cells, height, 2).is_some(),
+        leaf(cells, height, 7).is_some(),
+        leaf(cells, height, 8).is_some(),
+    )
+}
+
+// Whether members are at leaves 0, 2, 7 and 8 of the example; it has no leaf 8.
+fn are_taken(alloc: Global) -> Result<(bool, bool, bool, bool), LeafError> {
+    let cells = example_cells(alloc)?;
+    Ok(are_taken_in(&cells, 3))
 }
 
 #[test]
 fn members_of_the_example(rt: HostRuntime) -> Result<(), Fail> {
-    let cells = example_cells(rt.alloc())?;
-    let tree = Subtree::of(&cells, 3);
-    assert_eq!(rt; first_blank(&tree, 0), Some(2));
-    assert!(rt; has_leaf(&example(rt.alloc())?, 3));
-    assert!(rt; is_reached(&tree));
-    assert_eq!(rt; member_count(&tree), 6);
-    for (i, taken) in [(0, true), (2, false), (7, true), (8, false)] {
-        assert_eq!(rt; leaf(&cells, 3, i).is_some(), taken, "at {i}");
-    }
+    assert_eq!(rt; members(rt.alloc())?, (Some(2), true, 6));
+    assert!(rt; is_inhabited(rt.alloc())?);
+    assert_eq!(rt; are_taken(rt.alloc())?, (true, false, true, false));
     Ok(())
 }
 
-// The first parent of eight leaves with a wrong list, or where all are right that isn't parent-hash valid.
-fn first_wrong(alloc: Global, cells: Cells) -> Result<Option<u32>, LeafError>
-    requires shape { length cells.nodes ≡ nodes_in 3 }
-    requires cold { cells.hashes ≡ replicate (nodes_in 3) None }
+// The first parent with a wrong list, or where all are right that isn't parent-hash valid.
+fn first_wrong(alloc: Global, cells: &mut Cells, height: u32) -> Result<Option<u32>, AllocError>
+    requires shape { length cells.old.nodes ≡ nodes_in height }
+    requires fits { 2 ^ height ≤ 2 ^ 31 }
+    requires low { height ≤ max_height }
+    requires cold { cells.old.hashes ≡ replicate (nodes_in height) None }
 {
-    let mut cells = cells;
-    if !has_good_lists(&Subtree::of(&cells, 3)) {
-        return Ok(first_wrong_list(&Subtree::of(&cells, 3)));
+    if !has_good_lists(&Subtree::of(cells, height)) {
+        return Ok(first_wrong_list(&Subtree::of(cells, height)));
     }
     let mut done = 0;
-    let _tree_hash = tree_hash(&mut cells, 3, &mut done);
-    Ok(first_wrong_hash(alloc, &HashedSubtree::of(&cells, 3))?)
+    let _tree_hash = tree_hash(cells, height, &mut done);
+    first_wrong_hash(alloc, &HashedSubtree::of(cells, height))
 }
 
 fn first_wrong_with(alloc: Global, wrong: &[usize]) -> Result<Option<u32>, LeafError> {
-    first_wrong(alloc, Cells::from_slots(example_with(alloc, wrong)?)?)
+    let mut cells = Cells::from_slots(example_with(alloc, wrong)?)?;
+    Ok(first_wrong(alloc, &mut cells, 3)?)
 }
 
 #[test]
@@ -151,18 +225,45 @@ fn the_first_wrong_parent(rt: HostRuntime) -> Result<(), Fail> {
     Ok(())
 }
 
+// The first length of a list whose tree has another height than it should.
+fn first_wrong_height() -> Option<usize> {
+    for (len, height) in [(0, 0), (1, 0), (2, 1), (3, 1), (4, 2), (7, 2), (8, 3)] {
+        if height_for(len) != height {
+            return Some(len);
+        }
+    }
+    None
+}
+
+// Whether a list ends with a node, and whether leaves and parents alternate in it.
+fn is_sendable(alloc: Global) -> Result<(bool, bool), LeafError> {
+    let nodes = example(alloc)?;
+    Ok((has_last(&nodes), alternates(&nodes)))
+}
+
+// The example and blank nodes behind it, 31 in all.
+fn padded(alloc: Global) -> Result<Vec<Slot>, LeafError> {
+    let mut nodes = example(alloc)?;
+    pad(&mut nodes, 31)?;
+    Ok(nodes)
+}
+
+// How many nodes the padded list has, whether it ends with one that isn't blank, and how many nodes are sent of it.
+fn sent_of_padded(alloc: Global) -> Result<(usize, bool, usize), LeafError> {
+    let nodes = padded(alloc)?;
+    let (len, has_last) = (nodes.len(), has_last(&nodes));
+    Ok((len, has_last, sent_len(alloc, nodes)?))
+}
+
+fn sent_len(alloc: Global, nodes: Vec<Slot>) -> Result<usize, AllocError> {
+    let cells = Cells::from_slots(nodes)?;
+    Ok(to_nodes(alloc, &cells)?.len())
+}
+
 #[test]
 fn lists_from_outside(rt: HostRuntime) -> Result<(), Fail> {
-    let mut nodes = example(rt.alloc())?;
-    assert!(rt; has_last(&nodes));
-    assert!(rt; alternates(&nodes));
-    for (len, height) in [(0, 0), (1, 0), (2, 1), (3, 1), (4, 2), (7, 2), (8, 3)] {
-        assert_eq!(rt; height_for(len), height, "at {len}");
-    }
-    pad(&mut nodes, 31)?;
-    assert_eq!(rt; nodes.len(), 31);
-    assert!(rt; !has_last(&nodes));
-    let cells = Cells::from_slots(nodes)?;
-    assert_eq!(rt; to_nodes(rt.alloc(), &cells)?.len(), 15);
+    assert_eq!(rt; is_sendable(rt.alloc())?, (true, true));
+    assert_eq!(rt; first_wrong_height(), None);
+    assert_eq!(rt; sent_of_padded(rt.alloc())?, (31, false, 15));
     Ok(())
 }

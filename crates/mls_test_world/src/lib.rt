@@ -1,5 +1,4 @@
-//! Callers of worlds: two that need no more than what `run` promises, the same under suite 0x0001, and worked rows with
-//! worlds.
+//! Callers of worlds: two that need no more than what `run` promises, and the same under suite 0x0001.
 #![tactic(auto)]
 
 ghost use Rattle.std.specs.Prelude.{◌≡◌, IfOk};
@@ -9,12 +8,6 @@ ghost use Rattle.mls_model.specs.World.{empty_world};
 ghost use Rattle.mls_test_world.specs.FirstReplies.{AreReplied};
 
 mod deliveries;
-#[cfg(test)]
-mod numbers;
-#[cfg(test)]
-mod rows;
-#[cfg(test)]
-mod script;
 mod suite_0001;
 
 pub use deliveries::deliver_commit;

@@ -1,8 +1,8 @@
 //! Drawings as SVG files, by way of `serve`.
 
+use crate::tests::cases::{Case, count_met, is_met};
 use crate::tests::options::{FIVE, ONE, TWO, WITH_TREE};
 use crate::tests::rows::JOIN;
-use crate::tests::serve_file;
 use std::alloc::{AllocError, Global};
 use std::test::Fail;
 
@@ -85,46 +85,60 @@ fn opening(alloc: Global, width: u64, height: u64) -> Result<String, AllocError>
     )
 }
 
-#[test]
-fn draws_trees_as_svg_files(rt: HostRuntime) -> Result<(), Fail> {
-    let alloc = rt.alloc();
-    let svg: &[&str] = &["mls", "check", "FILE", "--draw", "--svg"];
-    let info: &[&str] = &["mls", "check", "--svg", "--group-info", "FILE", "--draw"];
-    let member: &[&str] = &["mls", "replay", "FILE", "--draw=1", "--svg"];
-    let table: [(&[&str], &str, u64, u64, &str); 7] = [
-        (svg, ONE, 112, 116, NODES_OF_ANN),
-        (svg, NAMED, 112, 116, NODES_OF_NAMED),
-        (svg, LONG, 112, 116, NODES_OF_LONG),
-        (svg, TWO, 192, 188, NODES_OF_TWO),
-        (svg, FIVE, 672, 332, NODES_OF_FIVE),
-        (info, WITH_TREE, 112, 116, NODES_OF_ANN),
-        (member, JOIN, 192, 188, NODES_OF_PAIR),
-    ];
-    for (words, file, width, height, nodes) in table {
-        let first = opening(alloc, width, height)?;
-        let text = format!(in alloc; "{first}{STYLE}{nodes}")?;
-        let (status, out) = serve_file(alloc, words, file.as_bytes())?;
-        assert_eq!(rt; status, 0, "for {file}");
-        assert!(rt; out.as_slice() == text.as_bytes(), "for {file}");
+const SVG: &[&str] = &["mls", "check", "FILE", "--draw", "--svg"];
+
+const INFO_SVG: &[&str] = &["mls", "check", "--svg", "--group-info", "FILE", "--draw"];
+
+const MEMBER_SVG: &[&str] = &["mls", "replay", "FILE", "--draw=1", "--svg"];
+
+/// Words, a FILE, the width and the height of the drawing, and its nodes.
+type Drawn<'a> = (&'a [&'a str], &'a str, u64, u64, &'a str);
+
+const DRAWN: &[Drawn] = &[
+    (SVG, ONE, 112, 116, NODES_OF_ANN),
+    (SVG, NAMED, 112, 116, NODES_OF_NAMED),
+    (SVG, LONG, 112, 116, NODES_OF_LONG),
+    (SVG, TWO, 192, 188, NODES_OF_TWO),
+    (SVG, FIVE, 672, 332, NODES_OF_FIVE),
+    (INFO_SVG, WITH_TREE, 112, 116, NODES_OF_ANN),
+    (MEMBER_SVG, JOIN, 192, 188, NODES_OF_PAIR),
+];
+
+/// The drawing of this width and height with these nodes.
+fn drawing(alloc: Global, width: u64, height: u64, nodes: &str) -> Result<String, AllocError> {
+    let first = opening(alloc, width, height)?;
+    format!(in alloc; "{first}{STYLE}{nodes}")
+}
+
+/// How many are drawn so, from the first on.
+fn count_drawn(alloc: Global, cases: &[Drawn<'_>]) -> Result<usize, AllocError> {
+    for i in 0..cases.len() {
+        let (words, file, width, height, nodes) = cases[i];
+        let text = drawing(alloc, width, height, nodes)?;
+        if !is_met(alloc, words, file.as_bytes(), 0, text.as_bytes())? {
+            return Ok(i);
+        }
     }
-    Ok(())
+    Ok(cases.len())
 }
 
 #[test]
+fn draws_trees_as_svg_files(rt: HostRuntime) -> Result<(), Fail> {
+    assert_eq!(rt; count_drawn(rt.alloc(), DRAWN)?, DRAWN.len());
+    Ok(())
+}
+
+const REFUSED_SVG: &[&str] = &["mls", "replay", "FILE", "--draw=2", "--svg"];
+
+const REFUSED: &[Case] = &[
+    (SVG, "00", 1, "refused: 20 TreeShape\n"),
+    (SVG, "zz", 1, "refused: 8 NotHex\n"),
+    (REFUSED_SVG, JOIN, 1, "refused: 90 NoSuchMember\n"),
+    (REFUSED_SVG, "[]", 1, "refused: 9 BadJson\n"),
+];
+
+#[test]
 fn refuses_what_is_no_tree(rt: HostRuntime) -> Result<(), Fail> {
-    let alloc = rt.alloc();
-    let svg: &[&str] = &["mls", "check", "FILE", "--draw", "--svg"];
-    let member: &[&str] = &["mls", "replay", "FILE", "--draw=2", "--svg"];
-    let table: [(&[&str], &str, &str); 4] = [
-        (svg, "00", "refused: 20 TreeShape\n"),
-        (svg, "zz", "refused: 8 NotHex\n"),
-        (member, JOIN, "refused: 90 NoSuchMember\n"),
-        (member, "[]", "refused: 9 BadJson\n"),
-    ];
-    for (words, file, text) in table {
-        let (status, out) = serve_file(alloc, words, file.as_bytes())?;
-        assert_eq!(rt; status, 1, "for {file}");
-        assert!(rt; out.as_slice() == text.as_bytes(), "for {file}");
-    }
+    assert_eq!(rt; count_met(rt.alloc(), REFUSED)?, REFUSED.len());
     Ok(())
 }

@@ -3,8 +3,10 @@
 ghost use Rattle.std.specs.Prelude.{Some, false};
 
 use crate::tests::rows::{JOIN, JOIN_TEXT};
-use crate::tests::{KEY_PACKAGE, OUT_OF_MEMORY, TEXT, serve_silently, unless_out_of_memory};
-use mls_cli_serve::{open_source, request};
+use crate::tests::{
+    KEY_PACKAGE, OUT_OF_MEMORY, TEXT, request_of, serve_silently, unless_out_of_memory,
+};
+use mls_cli_serve::{NoJob, Request, open_source};
 use mls_cli_text::{Fault, In, Out, Output};
 use std::alloc::{AllocError, Global};
 use std::io;
@@ -36,29 +38,38 @@ impl Write for Halting {
     }
 }
 
-#[test]
-fn goes_on_after_interrupted_writes(rt: HostRuntime) -> Result<(), Fail> {
-    let alloc = rt.alloc();
-    let mut halting = Halting {
-        held: Vec::new(alloc),
+fn make_halting(alloc: Global, room: usize) -> Result<Halting, AllocError> {
+    let mut held = Vec::new(alloc);
+    held.reserve(room)?;
+    Ok(Halting {
+        held,
         is_due: false,
-    };
-    halting.held.reserve(TEXT.len())?;
+    })
+}
+
+/// Whether all is printed on an output that is so interrupted.
+fn goes_on(alloc: Global, request: &Result<Request<'_>, NoJob>) -> Result<bool, AllocError> {
+    let mut halting = make_halting(alloc, TEXT.len())?;
     let mut file = Some(KEY_PACKAGE.as_bytes());
     let mut errors = Vec::new(alloc);
-    let words = ["mls", "show", "FILE"];
-    let request = request(alloc, words.as_slice());
     let status = serve_silently(
         alloc,
-        &request,
+        request,
         &mut file,
         &mut Out::new(&mut halting),
         &mut errors,
     );
     unless_out_of_memory(status, errors.as_slice())?;
-    assert_eq!(rt; status, 0);
-    assert!(rt; halting.held.as_slice() == TEXT.as_bytes());
-    assert!(rt; errors.is_empty());
+    Ok(status == 0 && halting.held.as_slice() == TEXT.as_bytes() && errors.is_empty())
+}
+
+fn shows_on(alloc: Global) -> Result<bool, AllocError> {
+    goes_on(alloc, &request_of(alloc, &["mls", "show", "FILE"]))
+}
+
+#[test]
+fn goes_on_after_interrupted_writes(rt: HostRuntime) -> Result<(), Fail> {
+    assert!(rt; shows_on(rt.alloc())?);
     Ok(())
 }
 
@@ -72,25 +83,24 @@ impl Read for Endless {
     }
 }
 
-/// The status for these words and a FILE without an end, and what is printed.
-fn serve_endless(alloc: Global, words: &[&str]) -> Result<(u8, Vec<u8>), AllocError> {
+/// Whether a FILE without an end is refused.
+fn stops(alloc: Global, request: &Result<Request<'_>, NoJob>) -> Result<bool, AllocError> {
     let mut file = Some(In::new(Endless));
     let mut out = Vec::new(alloc);
     let mut errors = Vec::new(alloc);
-    let request = request(alloc, words);
-    let status = serve_silently(alloc, &request, &mut file, &mut out, &mut errors);
+    let status = serve_silently(alloc, request, &mut file, &mut out, &mut errors);
     unless_out_of_memory(status, errors.as_slice())?;
-    Ok((status, out))
+    Ok(status == 1 && out.as_slice() == b"refused: 6 TooLong\n".as_slice())
+}
+
+fn stops_by(alloc: Global, words: &[&str]) -> Result<bool, AllocError> {
+    stops(alloc, &request_of(alloc, words))
 }
 
 #[test]
 fn stops_reading_at_the_limit(rt: HostRuntime) -> Result<(), Fail> {
-    let jobs: [&[&str]; 2] = [&["mls", "show", "FILE", "--raw"], &["mls", "check", "FILE"]];
-    for words in jobs {
-        let (status, out) = serve_endless(rt.alloc(), words)?;
-        assert_eq!(rt; status, 1);
-        assert!(rt; out.as_slice() == b"refused: 6 TooLong\n".as_slice());
-    }
+    assert!(rt; stops_by(rt.alloc(), &["mls", "show", "FILE", "--raw"])?);
+    assert!(rt; stops_by(rt.alloc(), &["mls", "check", "FILE"])?);
     Ok(())
 }
 
@@ -119,7 +129,7 @@ impl Output for Scarce {
 }
 
 /// How many lines a text has.
-fn lines(text: &[u8]) -> usize {
+pub fn count_lines(text: &[u8]) -> usize {
     let mut count: usize = 0;
     for byte in text {
         if *byte == b'\n' {
@@ -129,30 +139,56 @@ fn lines(text: &[u8]) -> usize {
     count
 }
 
+/// Whether a replay prints so many lines where its output wants memory behind them, and that is said.
+fn stops_behind(
+    alloc: Global,
+    request: &Result<Request<'_>, NoJob>,
+    left: usize,
+) -> Result<bool, AllocError> {
+    let mut scarce = Scarce {
+        held: Vec::new(alloc),
+        left,
+    };
+    let mut file = Some(JOIN.as_bytes());
+    let mut errors = Vec::new(alloc);
+    let status = serve_silently(alloc, request, &mut file, &mut scarce, &mut errors);
+    if scarce.left > 0 {
+        unless_out_of_memory(status, errors.as_slice())?;
+    }
+    let (wanted, said) = if left == 8 {
+        (0, "")
+    } else {
+        (3, OUT_OF_MEMORY)
+    };
+    let held = scarce.held.as_slice();
+    Ok(
+        status == wanted
+            && JOIN_TEXT.as_bytes().starts_with(held)
+            && count_lines(held) == left
+            && errors.as_slice() == said.as_bytes(),
+    )
+}
+
+fn stops_behind_each(
+    alloc: Global,
+    request: &Result<Request<'_>, NoJob>,
+) -> Result<bool, AllocError> {
+    for left in 0..9 {
+        if !stops_behind(alloc, request, left)? {
+            return Ok(false);
+        }
+    }
+    Ok(true)
+}
+
+fn replays_within(alloc: Global) -> Result<bool, AllocError> {
+    stops_behind_each(alloc, &request_of(alloc, &["mls", "replay", "FILE"]))
+}
+
 /// What a replay prints where its output wants memory behind so many lines: those, and what is said of it.
 #[test]
 fn stops_a_replay_without_memory(rt: HostRuntime) -> Result<(), Fail> {
-    let alloc = rt.alloc();
-    let words = ["mls", "replay", "FILE"];
-    let request = request(alloc, words.as_slice());
-    for left in 0..9 {
-        let mut scarce = Scarce {
-            held: Vec::new(alloc),
-            left,
-        };
-        let mut file = Some(JOIN.as_bytes());
-        let mut errors = Vec::new(alloc);
-        let status = serve_silently(alloc, &request, &mut file, &mut scarce, &mut errors);
-        if scarce.left > 0 {
-            unless_out_of_memory(status, errors.as_slice())?;
-        }
-        let is_whole = left == 8;
-        assert_eq!(rt; status, if is_whole { 0 } else { 3 });
-        assert!(rt; JOIN_TEXT.as_bytes().starts_with(scarce.held.as_slice()));
-        assert_eq!(rt; lines(scarce.held.as_slice()), left);
-        let said = if is_whole { "" } else { OUT_OF_MEMORY };
-        assert!(rt; errors.as_slice() == said.as_bytes());
-    }
+    assert!(rt; replays_within(rt.alloc())?);
     Ok(())
 }
 

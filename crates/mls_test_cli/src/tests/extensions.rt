@@ -40,80 +40,122 @@ fn both_lines(alloc: Global, state: &[u8]) -> Result<Vec<u8>, AllocError> {
     Ok(lines)
 }
 
+/// What is printed before the state of the first member.
+fn said_of_join(alloc: Global) -> Result<String, AllocError> {
+    format!(in alloc;
+        "{BEGUN}3: message 2, welcome 3\n4: advanced to 1\n5: member 1 at epoch 1\nmember 0: leaf 0"
+    )
+}
+
+/// Whether these are the lines of two members in one state, the beginning of the first left out.
+fn are_both_lines(alloc: Global, lines: &[u8]) -> Result<bool, AllocError> {
+    let state = &lines[..lines.len().saturating_sub(18) / 2];
+    Ok(
+        state.starts_with(b", epoch 1, tree ".as_slice())
+            && lines == both_lines(alloc, state)?.as_slice(),
+    )
+}
+
+/// Whether that is printed behind what is said of the join.
+fn joins_both(alloc: Global, file: &str) -> Result<bool, AllocError> {
+    let (status, out) = serve_file(alloc, WORDS, file.as_bytes())?;
+    match out.as_slice().strip_prefix(said_of_join(alloc)?.as_bytes()) {
+        Some(lines) => Ok(status == 0 && are_both_lines(alloc, lines)?),
+        None => Ok(false),
+    }
+}
+
+/// Whether both members have joined, and the commit and its Welcome have these sizes.
+fn joins(alloc: Global) -> Result<bool, AllocError> {
+    let file = recording_of(alloc, JOINED)?;
+    Ok(
+        joins_both(alloc, file.as_str())?
+            && size_of(alloc, file.as_str(), "2")? == 522
+            && size_of(alloc, file.as_str(), "3")? == 696,
+    )
+}
+
 /// A joiner has the context with the list, and so has the committer.
 #[test]
 fn joins_with_extensions(rt: HostRuntime) -> Result<(), Fail> {
-    let alloc = rt.alloc();
-    let file = recording_of(alloc, JOINED)?;
-    let (status, out) = serve_file(alloc, WORDS, file.as_bytes())?;
-    assert_eq!(rt; status, 0);
-    let said = format!(in alloc;
-        "{BEGUN}3: message 2, welcome 3\n4: advanced to 1\n5: member 1 at epoch 1\nmember 0: leaf 0"
-    )?;
-    let Some(lines) = out.as_slice().strip_prefix(said.as_bytes()) else {
-        return Err("other replies".into());
-    };
-    let state = &lines[..lines.len().saturating_sub(18) / 2];
-    assert!(rt; state.starts_with(b", epoch 1, tree ".as_slice()));
-    assert!(rt; lines == both_lines(alloc, state)?.as_slice());
-    assert_eq!(rt; size_of(alloc, file.as_str(), "2")?, 522);
-    assert_eq!(rt; size_of(alloc, file.as_str(), "3")?, 696);
+    assert!(rt; joins(rt.alloc())?);
     Ok(())
 }
 
+/// A proposal, which the member says and then hears.
+const PROPOSED: &str =
+    r#"{"op":"propose_extensions","member":0,"extensions":[{"type":61441,"data":"6869"}]},{"op":"propose_extensions","member":0,"extensions":[{"type":61441,"data":"6869"}]},{"op":"deliver","member":0,"bytes":{"message":3}}"#;
+
 /// Events behind those, with the beginning of what is said of them.
+const SAID: &[(&str, &str)] = &[
+    (PROPOSED, "3: message 2\n4: message 3\n5: known\n"),
+    (
+        r#"{"op":"propose_extensions","member":0,"extensions":[{"type":61439,"data":""}]}"#,
+        "3: refused 14 ExtensionNotAllowed\n",
+    ),
+    (
+        r#"{"op":"propose_extensions","member":0,"extensions":[{"type":65535,"data":""},{"type":61440,"data":""},{"type":65535,"data":""}]}"#,
+        "3: refused 14 ExtensionNotAllowed\n",
+    ),
+    (
+        r#"{"op":"propose_extensions","member":1,"extensions":[{"type":0,"data":""}]}"#,
+        "3: refused 90 NoSuchMember\n",
+    ),
+    (
+        r#"{"op":"propose_extensions","member":0,"extensions":[]},{"op":"commit","member":0,"items":[{"ref":{"message":2}}],"path":false,"seed":"0404040404040404040404040404040404040404040404040404040404040404"}"#,
+        "3: message 2\n4: message 3\n",
+    ),
+    (
+        r#"{"op":"commit","member":0,"items":[{"add":{"message":9}},{"extensions":[{"type":3,"data":""}]}],"path":true,"seed":"0404040404040404040404040404040404040404040404040404040404040404"}"#,
+        "3: refused 94 NoSuchMessage\n",
+    ),
+    (
+        r#"{"op":"commit","member":0,"items":[{"extensions":[{"type":3,"data":""}]},{"add":{"message":9}}],"path":true,"seed":"0404040404040404040404040404040404040404040404040404040404040404"}"#,
+        "3: refused 14 ExtensionNotAllowed\n",
+    ),
+    (
+        r#"{"op":"propose_extensions","member":0,"extensions":[{"type":61441,"data":"6869"}]},{"op":"commit","member":0,"items":[{"ref":{"message":2}},{"extensions":[]}],"path":true,"seed":"0404040404040404040404040404040404040404040404040404040404040404"}"#,
+        "3: message 2\n4: refused 68 SecondExtensions\n",
+    ),
+    (
+        r#"{"op":"commit","member":0,"items":[{"extensions":[]},{"extensions":[]}],"path":true,"seed":"0404040404040404040404040404040404040404040404040404040404040404"}"#,
+        "3: refused 68 SecondExtensions\n",
+    ),
+];
+
+/// Whether that is said of these events, and then of the member.
+fn says(alloc: Global, events: &str, said: &str) -> Result<bool, AllocError> {
+    let file = recording_of(alloc, events)?;
+    let expected = format!(in alloc; "{BEGUN}{said}member 0: leaf 0, epoch 0, ")?;
+    let (status, out) = serve_file(alloc, WORDS, file.as_bytes())?;
+    Ok(status == 0 && out.as_slice().starts_with(expected.as_bytes()))
+}
+
+/// Of how many events it is said, from the first on.
+fn count_said(alloc: Global, cases: &[(&str, &str)]) -> Result<usize, AllocError> {
+    for i in 0..cases.len() {
+        let (events, said) = cases[i];
+        if !says(alloc, events, said)? {
+            return Ok(i);
+        }
+    }
+    Ok(cases.len())
+}
+
 #[test]
 fn says_what_becomes_of_extensions(rt: HostRuntime) -> Result<(), Fail> {
-    let alloc = rt.alloc();
-    let table: [(&str, &str); 9] = [
-        (
-            r#"{"op":"propose_extensions","member":0,"extensions":[{"type":61441,"data":"6869"}]},{"op":"propose_extensions","member":0,"extensions":[{"type":61441,"data":"6869"}]},{"op":"deliver","member":0,"bytes":{"message":3}}"#,
-            "3: message 2\n4: message 3\n5: known\n",
-        ),
-        (
-            r#"{"op":"propose_extensions","member":0,"extensions":[{"type":61439,"data":""}]}"#,
-            "3: refused 14 ExtensionNotAllowed\n",
-        ),
-        (
-            r#"{"op":"propose_extensions","member":0,"extensions":[{"type":65535,"data":""},{"type":61440,"data":""},{"type":65535,"data":""}]}"#,
-            "3: refused 14 ExtensionNotAllowed\n",
-        ),
-        (
-            r#"{"op":"propose_extensions","member":1,"extensions":[{"type":0,"data":""}]}"#,
-            "3: refused 90 NoSuchMember\n",
-        ),
-        (
-            r#"{"op":"propose_extensions","member":0,"extensions":[]},{"op":"commit","member":0,"items":[{"ref":{"message":2}}],"path":false,"seed":"0404040404040404040404040404040404040404040404040404040404040404"}"#,
-            "3: message 2\n4: message 3\n",
-        ),
-        (
-            r#"{"op":"commit","member":0,"items":[{"add":{"message":9}},{"extensions":[{"type":3,"data":""}]}],"path":true,"seed":"0404040404040404040404040404040404040404040404040404040404040404"}"#,
-            "3: refused 94 NoSuchMessage\n",
-        ),
-        (
-            r#"{"op":"commit","member":0,"items":[{"extensions":[{"type":3,"data":""}]},{"add":{"message":9}}],"path":true,"seed":"0404040404040404040404040404040404040404040404040404040404040404"}"#,
-            "3: refused 14 ExtensionNotAllowed\n",
-        ),
-        (
-            r#"{"op":"propose_extensions","member":0,"extensions":[{"type":61441,"data":"6869"}]},{"op":"commit","member":0,"items":[{"ref":{"message":2}},{"extensions":[]}],"path":true,"seed":"0404040404040404040404040404040404040404040404040404040404040404"}"#,
-            "3: message 2\n4: refused 68 SecondExtensions\n",
-        ),
-        (
-            r#"{"op":"commit","member":0,"items":[{"extensions":[]},{"extensions":[]}],"path":true,"seed":"0404040404040404040404040404040404040404040404040404040404040404"}"#,
-            "3: refused 68 SecondExtensions\n",
-        ),
-    ];
-    for (events, said) in table {
-        let file = recording_of(alloc, events)?;
-        let expected = format!(in alloc; "{BEGUN}{said}member 0: leaf 0, epoch 0, ")?;
-        let (status, out) = serve_file(alloc, WORDS, file.as_bytes())?;
-        assert_eq!(rt; status, 0, "for {events}");
-        assert!(rt;
-            out.as_slice().starts_with(expected.as_bytes()),
-            "for {events}"
-        );
-    }
-    let alone = recording_of(alloc, table[0].0)?;
-    assert_eq!(rt; size_of(alloc, alone.as_str(), "2")?, 95);
+    assert_eq!(rt; count_said(rt.alloc(), SAID)?, SAID.len());
+    Ok(())
+}
+
+/// How many bytes that proposal has.
+fn size_of_proposal(alloc: Global) -> Result<usize, AllocError> {
+    let alone = recording_of(alloc, PROPOSED)?;
+    size_of(alloc, alone.as_str(), "2")
+}
+
+#[test]
+fn proposes_in_few_bytes(rt: HostRuntime) -> Result<(), Fail> {
+    assert_eq!(rt; size_of_proposal(rt.alloc())?, 95);
     Ok(())
 }

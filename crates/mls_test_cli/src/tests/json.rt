@@ -1,8 +1,10 @@
 //! Pages as JSON objects, by way of `serve`. The objects are made of the lines by the table of docs/FORMATS.md.
 
+use crate::tests::cases::{Case, count_met};
 use crate::tests::options::{ONE, WITH_TREE};
 use crate::tests::suite_0001::TREE as SIGNED;
 use crate::tests::{KEY_PACKAGE, serve_file};
+use std::alloc::{AllocError, Global};
 use std::test::Fail;
 
 const KEY_PACKAGE_OBJECT: &str =
@@ -42,85 +44,91 @@ const NOT_HEX_AND_HINT: &str =
 
 const WRONG_KIND: &str = "{\"refused\":{\"number\":95,\"name\":\"WrongMessageKind\"}}\n";
 
+const SHOW: &[&str] = &["mls", "show", "FILE", "--json"];
+
+const FULL: &[&str] = &["mls", "show", "--full", "--json", "FILE"];
+
+const CHECK: &[&str] = &["mls", "check", "FILE", "--json"];
+
+const INFO: &[&str] = &["mls", "check", "FILE", "--group-info", "--json"];
+
+const OBJECTS: &[Case] = &[
+    (SHOW, KEY_PACKAGE, 0, KEY_PACKAGE_OBJECT),
+    (SHOW, WELCOME, 0, WELCOME_OBJECT),
+    (FULL, WELCOME, 0, FULL_WELCOME_OBJECT),
+    (SHOW, EXTENSIONS, 0, EXTENSIONS_OBJECT),
+    (SHOW, "00010003f001", 1, TRUNCATED),
+    (SHOW, "\u{1}", 1, NOT_HEX_AND_HINT),
+    (
+        &["mls", "show", "FILE", "--json", "--raw"],
+        "\u{0}",
+        1,
+        TRUNCATED,
+    ),
+    (CHECK, ONE, 1, TREE_OBJECT),
+    (
+        &[
+            "mls",
+            "check",
+            "--json",
+            "FILE",
+            "--suite=0001",
+            "--signatures",
+        ],
+        SIGNED,
+        0,
+        SIGNED_OBJECT,
+    ),
+    (CHECK, "02", 1, TRUNCATED),
+    (INFO, WITH_TREE, 1, TREE_OBJECT),
+    (INFO, WELCOME, 1, WRONG_KIND),
+];
+
 #[test]
 fn prints_objects(rt: HostRuntime) -> Result<(), Fail> {
-    let alloc = rt.alloc();
-    let show: &[&str] = &["mls", "show", "FILE", "--json"];
-    let full: &[&str] = &["mls", "show", "--full", "--json", "FILE"];
-    let check: &[&str] = &["mls", "check", "FILE", "--json"];
-    let info: &[&str] = &["mls", "check", "FILE", "--group-info", "--json"];
-    let table: [(&[&str], &str, u8, &str); 12] = [
-        (show, KEY_PACKAGE, 0, KEY_PACKAGE_OBJECT),
-        (show, WELCOME, 0, WELCOME_OBJECT),
-        (full, WELCOME, 0, FULL_WELCOME_OBJECT),
-        (show, EXTENSIONS, 0, EXTENSIONS_OBJECT),
-        (show, "00010003f001", 1, TRUNCATED),
-        (show, "\u{1}", 1, NOT_HEX_AND_HINT),
-        (
-            &["mls", "show", "FILE", "--json", "--raw"],
-            "\u{0}",
-            1,
-            TRUNCATED,
-        ),
-        (check, ONE, 1, TREE_OBJECT),
-        (
-            &[
-                "mls",
-                "check",
-                "--json",
-                "FILE",
-                "--suite=0001",
-                "--signatures",
-            ],
-            SIGNED,
-            0,
-            SIGNED_OBJECT,
-        ),
-        (check, "02", 1, TRUNCATED),
-        (info, WITH_TREE, 1, TREE_OBJECT),
-        (info, WELCOME, 1, WRONG_KIND),
-    ];
-    for (words, file, status, text) in table {
-        let (answer, out) = serve_file(alloc, words, file.as_bytes())?;
-        assert_eq!(rt; answer, status, "for {text}");
-        assert!(rt; out.as_slice() == text.as_bytes(), "for {text}");
-    }
+    assert_eq!(rt; count_met(rt.alloc(), OBJECTS)?, OBJECTS.len());
     Ok(())
 }
 
-/// A drawing has no members, and neither has what the other subcommands print.
+/// A drawing has no members.
+const DRAWN: &str =
+    "error: only one of --draw and --json can be used\n\nUsage: mls check [OPTIONS] <FILE>\n\nFor more information, try '--help'.\n";
+
+const DRAWINGS: &[Case] = &[
+    (&["mls", "check", "FILE", "--draw", "--json"], ONE, 2, DRAWN),
+    (
+        &[
+            "mls",
+            "check",
+            "--json",
+            "FILE",
+            "--svg",
+            "--draw",
+            "--group-info",
+        ],
+        ONE,
+        2,
+        DRAWN,
+    ),
+];
+
+#[test]
+fn refuses_objects_of_drawings(rt: HostRuntime) -> Result<(), Fail> {
+    assert_eq!(rt; count_met(rt.alloc(), DRAWINGS)?, DRAWINGS.len());
+    Ok(())
+}
+
+/// Whether these words aren't taken.
+fn is_unexpected(alloc: Global, words: &[&str]) -> Result<bool, AllocError> {
+    let (status, out) = serve_file(alloc, words, b"[]")?;
+    let said = b"error: unexpected argument '--json' found\n".as_slice();
+    Ok(status == 2 && out.as_slice().starts_with(said))
+}
+
+/// What the other subcommands print has no members either.
 #[test]
 fn refuses_what_has_no_members(rt: HostRuntime) -> Result<(), Fail> {
-    let alloc = rt.alloc();
-    let drawn =
-        "error: only one of --draw and --json can be used\n\nUsage: mls check [OPTIONS] <FILE>\n\nFor more information, try '--help'.\n";
-    let table: [(&[&str], &str); 2] = [
-        (&["mls", "check", "FILE", "--draw", "--json"], drawn),
-        (
-            &[
-                "mls",
-                "check",
-                "--json",
-                "FILE",
-                "--svg",
-                "--draw",
-                "--group-info",
-            ],
-            drawn,
-        ),
-    ];
-    for (words, text) in table {
-        let (answer, out) = serve_file(alloc, words, ONE.as_bytes())?;
-        assert_eq!(rt; answer, 2, "for {text}");
-        assert!(rt; out.as_slice() == text.as_bytes(), "for {text}");
-    }
-    for words in [
-        ["mls", "replay", "FILE", "--json"],
-        ["mls", "vectors", "FILE", "--json"],
-    ] {
-        let (answer, out) = serve_file(alloc, words.as_slice(), b"[]")?;
-        assert_eq!(rt; answer, 2);
-        assert!(rt; out.starts_with(b"error: unexpected argument '--json' found\n".as_slice()));
-    }
+    assert!(rt; is_unexpected(rt.alloc(), &["mls", "replay", "FILE", "--json"])?);
+    assert!(rt; is_unexpected(rt.alloc(), &["mls", "vectors", "FILE", "--json"])?);
     Ok(())
 }

@@ -1,8 +1,10 @@
 //! Drawings, hints and GroupInfos of `mls check`, and `mls --explain`, by way of `serve`.
 
-use crate::tests::{serve_file, serve_silently, with_room};
-use mls_cli_serve::request;
-use std::alloc::AllocError;
+use crate::tests::cases::{Case, count_met};
+use crate::tests::faults::serve_with_errors;
+use crate::tests::request_of;
+use mls_cli_serve::{NoJob, Request};
+use std::alloc::{AllocError, Global};
 use std::test::Fail;
 
 /// Trees of one and two leaves, of five of which one is blank, and of seven. Their leaves are named in the pictures.
@@ -71,6 +73,9 @@ const NOT_HEX: &str = "refused: 8 NotHex\n";
 
 const JSON: &str = "refused: 8 NotHex\nmls: the file is JSON: see `mls replay` and `mls vectors`\n";
 
+/// What is said of it on the errors.
+const HINT: &str = "mls: the file is JSON: see `mls replay` and `mls vectors`\n";
+
 const BINARY: &str = "refused: 8 NotHex\nmls: the file is binary: give --raw\n";
 
 const NO_DRAWING: &str =
@@ -79,166 +84,177 @@ const NO_DRAWING: &str =
 const NO_WIDTH: &str =
     "error: invalid value 'x' for '--width <WIDTH>': invalid digit found in string\n\nFor more information, try '--help'.\n";
 
+const DRAW: &[&str] = &["mls", "check", "FILE", "--draw"];
+
+const NARROW: &[&str] = &["mls", "check", "FILE", "--draw", "--width=10"];
+
+const EMPTY: &[&str] = &["mls", "check", "--draw", "--width", "0", "FILE"];
+
+const DRAWN_INFO: &[&str] = &["mls", "check", "FILE", "--draw", "--group-info"];
+
+const DRAWN: &[Case] = &[
+    (DRAW, ONE, 0, "■ 0 \"ann\"\n"),
+    (DRAW, TWO, 0, "┌─■ 0 \"ann\"\n○\n└─■ 1 \"bob\"\n"),
+    (NARROW, TWO, 0, "┌─■ 0 \"an…\n○\n└─■ 1 \"bo…\n"),
+    (EMPTY, TWO, 0, "\n\n\n"),
+    (DRAW, FIVE, 0, PICTURE_OF_FIVE),
+    (DRAW, SEVEN, 0, PICTURE_OF_SEVEN),
+    (DRAW, "00", 1, "refused: 20 TreeShape\n"),
+    (DRAW, "zz", 1, "refused: 8 NotHex\n"),
+    (DRAWN_INFO, WITH_TREE, 0, "■ 0 \"ann\"\n"),
+    (DRAWN_INFO, WITHOUT_TREE, 1, "refused: 76 NoTree\n"),
+    (DRAWN_INFO, ONE, 1, "refused: 7 BadTag\n"),
+    // What isn't asked for of a drawing changes nothing.
+    (
+        &[
+            "mls",
+            "check",
+            "--suite=0001",
+            "--group=z",
+            "--draw",
+            "FILE",
+        ],
+        ONE,
+        0,
+        "■ 0 \"ann\"\n",
+    ),
+    (&["mls", "check", "FILE", "--width=3"], "", 2, NO_DRAWING),
+    (&["mls", "check", "--svg", "FILE"], "", 2, NO_DRAWING),
+    (
+        &["mls", "check", "FILE", "--svg", "--draw", "--width=3"],
+        "",
+        2,
+        NO_DRAWING,
+    ),
+    (&["mls", "check", "FILE", "--width=x"], "", 2, NO_WIDTH),
+];
+
 #[test]
 fn draws_trees(rt: HostRuntime) -> Result<(), Fail> {
-    let alloc = rt.alloc();
-    let draw: &[&str] = &["mls", "check", "FILE", "--draw"];
-    let narrow: &[&str] = &["mls", "check", "FILE", "--draw", "--width=10"];
-    let empty: &[&str] = &["mls", "check", "--draw", "--width", "0", "FILE"];
-    let info: &[&str] = &["mls", "check", "FILE", "--draw", "--group-info"];
-    let table: [(&[&str], &str, u8, &str); 16] = [
-        (draw, ONE, 0, "■ 0 \"ann\"\n"),
-        (draw, TWO, 0, "┌─■ 0 \"ann\"\n○\n└─■ 1 \"bob\"\n"),
-        (narrow, TWO, 0, "┌─■ 0 \"an…\n○\n└─■ 1 \"bo…\n"),
-        (empty, TWO, 0, "\n\n\n"),
-        (draw, FIVE, 0, PICTURE_OF_FIVE),
-        (draw, SEVEN, 0, PICTURE_OF_SEVEN),
-        (draw, "00", 1, "refused: 20 TreeShape\n"),
-        (draw, "zz", 1, "refused: 8 NotHex\n"),
-        (info, WITH_TREE, 0, "■ 0 \"ann\"\n"),
-        (info, WITHOUT_TREE, 1, "refused: 76 NoTree\n"),
-        (info, ONE, 1, "refused: 7 BadTag\n"),
-        // What isn't asked for of a drawing changes nothing.
-        (
-            &[
-                "mls",
-                "check",
-                "--suite=0001",
-                "--group=z",
-                "--draw",
-                "FILE",
-            ],
-            ONE,
-            0,
-            "■ 0 \"ann\"\n",
-        ),
-        (&["mls", "check", "FILE", "--width=3"], "", 2, NO_DRAWING),
-        (&["mls", "check", "--svg", "FILE"], "", 2, NO_DRAWING),
-        (
-            &["mls", "check", "FILE", "--svg", "--draw", "--width=3"],
-            "",
-            2,
-            NO_DRAWING,
-        ),
-        (&["mls", "check", "FILE", "--width=x"], "", 2, NO_WIDTH),
-    ];
-    for (words, file, status, text) in table {
-        let (answer, out) = serve_file(alloc, words, file.as_bytes())?;
-        assert_eq!(rt; answer, status, "for {file}");
-        assert!(rt; out.as_slice() == text.as_bytes(), "for {file}");
-    }
+    assert_eq!(rt; count_met(rt.alloc(), DRAWN)?, DRAWN.len());
     Ok(())
 }
 
+const SHOW: &[&str] = &["mls", "show", "FILE"];
+
+const CHECK: &[&str] = &["mls", "check", "FILE"];
+
+const HINTS: &[Case] = &[
+    (SHOW, "x0", 1, NOT_HEX),
+    (SHOW, "", 1, "refused: 2 Truncated\n"),
+    (SHOW, "[1]", 1, JSON),
+    (SHOW, "{\"identity\": \"\u{e9}\"}", 1, JSON),
+    (SHOW, " {}", 1, NOT_HEX),
+    (SHOW, "{\u{0}", 1, BINARY),
+    (SHOW, "\u{1}\u{0}", 1, BINARY),
+    (SHOW, "0\u{7f}", 1, BINARY),
+    (SHOW, "00\u{1f}", 1, BINARY),
+    (SHOW, "~ \t\r\n", 1, NOT_HEX),
+    (CHECK, "[", 1, JSON),
+    (CHECK, "\u{e9}", 1, BINARY),
+    (&["mls", "check", "FILE", "--draw"], "{}", 1, JSON),
+    (
+        &["mls", "check", "FILE", "--group-info"],
+        "\u{1}",
+        1,
+        BINARY,
+    ),
+    (
+        &["mls", "show", "FILE", "--raw"],
+        "\u{1}",
+        1,
+        "refused: 2 Truncated\n",
+    ),
+];
+
 #[test]
 fn hints_at_options(rt: HostRuntime) -> Result<(), Fail> {
-    let alloc = rt.alloc();
-    let show: &[&str] = &["mls", "show", "FILE"];
-    let check: &[&str] = &["mls", "check", "FILE"];
-    let table: [(&[&str], &str, &str); 15] = [
-        (show, "x0", NOT_HEX),
-        (show, "", "refused: 2 Truncated\n"),
-        (show, "[1]", JSON),
-        (show, "{\"identity\": \"\u{e9}\"}", JSON),
-        (show, " {}", NOT_HEX),
-        (show, "{\u{0}", BINARY),
-        (show, "\u{1}\u{0}", BINARY),
-        (show, "0\u{7f}", BINARY),
-        (show, "00\u{1f}", BINARY),
-        (show, "~ \t\r\n", NOT_HEX),
-        (check, "[", JSON),
-        (check, "\u{e9}", BINARY),
-        (&["mls", "check", "FILE", "--draw"], "{}", JSON),
-        (&["mls", "check", "FILE", "--group-info"], "\u{1}", BINARY),
-        (
-            &["mls", "show", "FILE", "--raw"],
-            "\u{1}",
-            "refused: 2 Truncated\n",
-        ),
-    ];
-    for (words, file, text) in table {
-        let (answer, out) = serve_file(alloc, words, file.as_bytes())?;
-        assert_eq!(rt; answer, 1, "for {file}");
-        assert!(rt; out.as_slice() == text.as_bytes(), "for {file}");
-    }
+    assert_eq!(rt; count_met(rt.alloc(), HINTS)?, HINTS.len());
     Ok(())
+}
+
+/// Whether the status and the output are the same where the errors' writer takes so much of the hint.
+fn is_hinted_within(
+    alloc: Global,
+    request: &Result<Request<'_>, NoJob>,
+    room: usize,
+) -> Result<bool, AllocError> {
+    let left = serve_with_errors(alloc, request, Some("{}".as_bytes()), room)?;
+    if left.status == 3 {
+        return Err(AllocError);
+    }
+    Ok(left.is(1, NOT_HEX, HINT, room))
+}
+
+fn is_hinted_by(alloc: Global, request: &Result<Request<'_>, NoJob>) -> Result<bool, AllocError> {
+    for room in 0..HINT.len() + 1 {
+        if !is_hinted_within(alloc, request, room)? {
+            return Ok(false);
+        }
+    }
+    Ok(true)
+}
+
+fn is_hinted(alloc: Global) -> Result<bool, AllocError> {
+    is_hinted_by(alloc, &request_of(alloc, SHOW))
 }
 
 /// A hint that can't be written changes neither the output nor the status.
 #[test]
 fn keeps_the_status_of_an_unwritten_hint(rt: HostRuntime) -> Result<(), Fail> {
-    let alloc = rt.alloc();
-    let words = ["mls", "show", "FILE"];
-    let request = request(alloc, words.as_slice());
-    let hint = &JSON[NOT_HEX.len()..];
-    for room in 0..hint.len() + 1 {
-        let mut file = Some("{}".as_bytes());
-        let mut out = Vec::new(alloc);
-        let mut full = with_room(alloc, room)?;
-        let status = serve_silently(alloc, &request, &mut file, &mut out, &mut full);
-        if status == 3 {
-            return Err(Fail::from(AllocError));
-        }
-        assert_eq!(rt; status, 1);
-        assert!(rt; out.as_slice() == NOT_HEX.as_bytes());
-        assert!(rt; full.held.as_slice() == &hint.as_bytes()[..room]);
-    }
+    assert!(rt; is_hinted(rt.alloc())?);
     Ok(())
 }
+
+const INFO: &[&str] = &["mls", "check", "FILE", "--group-info"];
+
+const INFOS: &[Case] = &[
+    (INFO, WITH_TREE, 1, INFO_LINES),
+    (INFO, WITHOUT_TREE, 1, "refused: 76 NoTree\n"),
+    (INFO, OF_OTHER_SUITE, 1, "refused: 71 WrongSuite\n"),
+    (INFO, COMMIT, 1, "refused: 95 WrongMessageKind\n"),
+    (INFO, ONE, 1, "refused: 7 BadTag\n"),
+    // The message says which suite and group it is of.
+    (
+        &[
+            "mls",
+            "check",
+            "--group-info",
+            "--suite=0001",
+            "--group=z",
+            "FILE",
+        ],
+        WITH_TREE,
+        1,
+        INFO_LINES,
+    ),
+];
 
 #[test]
 fn checks_group_infos(rt: HostRuntime) -> Result<(), Fail> {
-    let alloc = rt.alloc();
-    let info: &[&str] = &["mls", "check", "FILE", "--group-info"];
-    let table: [(&[&str], &str, u8, &str); 6] = [
-        (info, WITH_TREE, 1, INFO_LINES),
-        (info, WITHOUT_TREE, 1, "refused: 76 NoTree\n"),
-        (info, OF_OTHER_SUITE, 1, "refused: 71 WrongSuite\n"),
-        (info, COMMIT, 1, "refused: 95 WrongMessageKind\n"),
-        (info, ONE, 1, "refused: 7 BadTag\n"),
-        // The message says which suite and group it is of.
-        (
-            &[
-                "mls",
-                "check",
-                "--group-info",
-                "--suite=0001",
-                "--group=z",
-                "FILE",
-            ],
-            WITH_TREE,
-            1,
-            INFO_LINES,
-        ),
-    ];
-    for (words, file, status, text) in table {
-        let (answer, out) = serve_file(alloc, words, file.as_bytes())?;
-        assert_eq!(rt; answer, status, "for {file}");
-        assert!(rt; out.as_slice() == text.as_bytes(), "for {file}");
-    }
+    assert_eq!(rt; count_met(rt.alloc(), INFOS)?, INFOS.len());
     Ok(())
 }
 
+const SPENT: &str =
+    "refusal: 110 RatchetSpent\ntext: no generation is left\ncheck: the sender hasn't sent its generation 2^32 - 1 (RFC 9420, 9.1)\nadvice: commit, and seal in the next epoch\n";
+
+const EARLY: &str =
+    "refusal: 2 Truncated\ntext: the bytes end too early\ncheck: each number, header and vector is whole\nadvice: send the bytes again, whole; see that no line of a hex dump is missing\n";
+
+const UNKNOWN: &str =
+    "error: invalid value '120' for '--explain <REFUSAL>'\n\nUsage: mls <COMMAND>\n       mls --explain <REFUSAL>\n\nFor more information, try '--help'.\n";
+
+const EXPLAINED: &[Case] = &[
+    (&["mls", "--explain", "110"], "", 0, SPENT),
+    (&["mls", "--explain", "RatchetSpent"], "", 0, SPENT),
+    (&["mls", "--explain", "2"], "", 0, EARLY),
+    (&["mls", "--explain", "Truncated"], "", 0, EARLY),
+    (&["mls", "--explain", "120"], "", 2, UNKNOWN),
+];
+
 #[test]
 fn explains_refusals(rt: HostRuntime) -> Result<(), Fail> {
-    let alloc = rt.alloc();
-    let spent =
-        "refusal: 110 RatchetSpent\ntext: no generation is left\ncheck: the sender hasn't sent its generation 2^32 - 1 (RFC 9420, 9.1)\nadvice: commit, and seal in the next epoch\n";
-    let early =
-        "refusal: 2 Truncated\ntext: the bytes end too early\ncheck: each number, header and vector is whole\nadvice: send the bytes again, whole; see that no line of a hex dump is missing\n";
-    let unknown =
-        "error: invalid value '120' for '--explain <REFUSAL>'\n\nUsage: mls <COMMAND>\n       mls --explain <REFUSAL>\n\nFor more information, try '--help'.\n";
-    let table: [(&[&str], &str, u8, &str); 5] = [
-        (&["mls", "--explain", "110"], "", 0, spent),
-        (&["mls", "--explain", "RatchetSpent"], "", 0, spent),
-        (&["mls", "--explain", "2"], "", 0, early),
-        (&["mls", "--explain", "Truncated"], "", 0, early),
-        (&["mls", "--explain", "120"], "", 2, unknown),
-    ];
-    for (words, file, status, text) in table {
-        let (answer, out) = serve_file(alloc, words, file.as_bytes())?;
-        assert_eq!(rt; answer, status, "for {file}");
-        assert!(rt; out.as_slice() == text.as_bytes(), "for {file}");
-    }
+    assert_eq!(rt; count_met(rt.alloc(), EXPLAINED)?, EXPLAINED.len());
     Ok(())
 }

@@ -1,12 +1,8 @@
 //! What `mls replay` prints, by way of `serve`.
 
+use crate::tests::cases::{FileCase, count_met_by, is_met};
+use crate::tests::faults::{is_begun, is_cut_at_lines, is_unread_at_each};
 use crate::tests::rows::{EXPECTED, EXPECTED_TEXT, JOIN, JOIN_TEXT};
-use crate::tests::{
-    Broken, OUT_OF_MEMORY, fails_at_line, serve_file, serve_silently, unless_out_of_memory,
-    with_room,
-};
-use mls_cli_serve::request;
-use mls_cli_text::{In, Out};
 use std::alloc::{AllocError, Global};
 use std::test::Fail;
 
@@ -40,222 +36,195 @@ pub fn recording_of_both(alloc: Global, front: &str, behind: &str) -> Result<Str
 }
 
 /// Events behind the creation of a group, with what is said of them.
+const EVENTS: &[FileCase] = &[
+    (
+        r#"{"op":"drop_pending","member":0}"#,
+        0,
+        "2: nothing pending\n",
+    ),
+    (
+        r#"{"op":"drop_pending","member":0,"expect":"nothing pending"}"#,
+        0,
+        "2: nothing pending\n",
+    ),
+    (
+        r#"{"op":"drop_pending","member":0,"expect":"dropped"},{"op":"drop_pending","member":0}"#,
+        1,
+        "2: nothing pending\n2: expected dropped\n3: nothing pending\n",
+    ),
+    (
+        r#"{"op":"drop_pending","member":0,"expect":""}"#,
+        1,
+        "2: nothing pending\n2: expected \n",
+    ),
+    (
+        r#"{"op":"commit","member":0,"items":[],"path":false,"seed":"0505050505050505050505050505050505050505050505050505050505050505"},{"op":"drop_pending","member":0}"#,
+        0,
+        "2: message 1\n3: dropped\n",
+    ),
+    (
+        r#"{"op":"propose_update","member":0,"seed":"0505050505050505050505050505050505050505050505050505050505050505"},{"op":"deliver","member":0,"bytes":{"message":1}}"#,
+        0,
+        "2: message 1\n3: known\n",
+    ),
+    (
+        r#"{"op":"deliver","member":9,"bytes":{"message":0}}"#,
+        0,
+        "2: refused 90 NoSuchMember\n",
+    ),
+    (
+        r#"{"op":"create","candidate":0,"group":"","seed":"0505050505050505050505050505050505050505050505050505050505050505"}"#,
+        0,
+        "2: refused 91 CandidateSpent\n",
+    ),
+    (
+        r#"{"op":"join","candidate":1,"bytes":""}"#,
+        0,
+        "2: refused 92 NoSuchCandidate\n",
+    ),
+    (
+        r#"{"op":"candidate","identity":"","seed":"0101010101010101010101010101010101010101010101010101010101010101"}"#,
+        0,
+        "2: refused 93 CandidateRepeated\n",
+    ),
+    (
+        r#"{"op":"deliver","member":0,"bytes":{"message":9},"expect":"refused 94 NoSuchMessage"}"#,
+        0,
+        "2: refused 94 NoSuchMessage\n",
+    ),
+    (
+        r#"{"op":"propose_add","member":0,"key_package":"00010003f0010000"}"#,
+        0,
+        "2: refused 95 WrongMessageKind\n",
+    ),
+    (
+        r#"{"op":"propose_remove","member":0,"leaf":3}"#,
+        0,
+        "2: refused 22 NoSuchLeaf\n",
+    ),
+    (
+        r#"{"op":"deliver","member":0,"bytes":"00"}"#,
+        0,
+        "2: refused 2 Truncated\n",
+    ),
+];
+
+/// Whether that is so.
+fn is_replayed(alloc: Global, events: &str, status: u8, text: &str) -> Result<bool, AllocError> {
+    let file = recording_of_both(alloc, ALONE, events)?;
+    let whole = format!(in alloc; "{BEGUN}{text}{ADA}")?;
+    is_met(alloc, WORDS, file.as_bytes(), status, whole.as_bytes())
+}
+
+/// How many are so, from the first on.
+fn count_replayed(alloc: Global, cases: &[FileCase<'_>]) -> Result<usize, AllocError> {
+    for i in 0..cases.len() {
+        let (events, status, text) = cases[i];
+        if !is_replayed(alloc, events, status, text)? {
+            return Ok(i);
+        }
+    }
+    Ok(cases.len())
+}
+
 #[test]
 fn replays_events(rt: HostRuntime) -> Result<(), Fail> {
-    let alloc = rt.alloc();
-    let table: [(&str, u8, &str); 14] = [
-        (
-            r#"{"op":"drop_pending","member":0}"#,
-            0,
-            "2: nothing pending\n",
-        ),
-        (
-            r#"{"op":"drop_pending","member":0,"expect":"nothing pending"}"#,
-            0,
-            "2: nothing pending\n",
-        ),
-        (
-            r#"{"op":"drop_pending","member":0,"expect":"dropped"},{"op":"drop_pending","member":0}"#,
-            1,
-            "2: nothing pending\n2: expected dropped\n3: nothing pending\n",
-        ),
-        (
-            r#"{"op":"drop_pending","member":0,"expect":""}"#,
-            1,
-            "2: nothing pending\n2: expected \n",
-        ),
-        (
-            r#"{"op":"commit","member":0,"items":[],"path":false,"seed":"0505050505050505050505050505050505050505050505050505050505050505"},{"op":"drop_pending","member":0}"#,
-            0,
-            "2: message 1\n3: dropped\n",
-        ),
-        (
-            r#"{"op":"propose_update","member":0,"seed":"0505050505050505050505050505050505050505050505050505050505050505"},{"op":"deliver","member":0,"bytes":{"message":1}}"#,
-            0,
-            "2: message 1\n3: known\n",
-        ),
-        (
-            r#"{"op":"deliver","member":9,"bytes":{"message":0}}"#,
-            0,
-            "2: refused 90 NoSuchMember\n",
-        ),
-        (
-            r#"{"op":"create","candidate":0,"group":"","seed":"0505050505050505050505050505050505050505050505050505050505050505"}"#,
-            0,
-            "2: refused 91 CandidateSpent\n",
-        ),
-        (
-            r#"{"op":"join","candidate":1,"bytes":""}"#,
-            0,
-            "2: refused 92 NoSuchCandidate\n",
-        ),
-        (
-            r#"{"op":"candidate","identity":"","seed":"0101010101010101010101010101010101010101010101010101010101010101"}"#,
-            0,
-            "2: refused 93 CandidateRepeated\n",
-        ),
-        (
-            r#"{"op":"deliver","member":0,"bytes":{"message":9},"expect":"refused 94 NoSuchMessage"}"#,
-            0,
-            "2: refused 94 NoSuchMessage\n",
-        ),
-        (
-            r#"{"op":"propose_add","member":0,"key_package":"00010003f0010000"}"#,
-            0,
-            "2: refused 95 WrongMessageKind\n",
-        ),
-        (
-            r#"{"op":"propose_remove","member":0,"leaf":3}"#,
-            0,
-            "2: refused 22 NoSuchLeaf\n",
-        ),
-        (
-            r#"{"op":"deliver","member":0,"bytes":"00"}"#,
-            0,
-            "2: refused 2 Truncated\n",
-        ),
-    ];
-    for (events, status, text) in table {
-        let file = recording_of_both(alloc, ALONE, events)?;
-        let expected = format!(in alloc; "{BEGUN}{text}{ADA}")?;
-        let (answer, out) = serve_file(alloc, WORDS, file.as_bytes())?;
-        assert_eq!(rt; answer, status, "for {events}");
-        assert!(rt; out.as_slice() == expected.as_bytes(), "for {events}");
-    }
+    assert_eq!(rt; count_replayed(rt.alloc(), EVENTS)?, EVENTS.len());
     Ok(())
 }
 
-/// Recordings without a group.
+/// Events of recordings without a group.
+const LESS: &[FileCase] = &[
+    ("", 0, ""),
+    (
+        r#"{"op":"drop_pending","member":0}"#,
+        0,
+        "0: refused 90 NoSuchMember\n",
+    ),
+    (
+        r#"{"op":"candidate","identity":"","seed":"0101010101010101010101010101010101010101010101010101010101010101","expect":"candidate 0, message 0"},{"op":"create","candidate":1,"group":"","seed":"0202020202020202020202020202020202020202020202020202020202020202"}"#,
+        0,
+        "0: candidate 0, message 0\n1: refused 92 NoSuchCandidate\n",
+    ),
+    (
+        r#"{"op":"drop_pending","member":0,"expect":"dropped"},{"op":"drop_pending","member":1,"expect":"refused 90 NoSuchMember"}"#,
+        1,
+        "0: refused 90 NoSuchMember\n0: expected dropped\n1: refused 90 NoSuchMember\n",
+    ),
+];
+
+/// How many are as told, from the first on.
+fn count_less(alloc: Global, cases: &[FileCase<'_>]) -> Result<usize, AllocError> {
+    for i in 0..cases.len() {
+        let (events, status, text) = cases[i];
+        let file = recording_of(alloc, events)?;
+        if !is_met(alloc, WORDS, file.as_bytes(), status, text.as_bytes())? {
+            return Ok(i);
+        }
+    }
+    Ok(cases.len())
+}
+
 #[test]
 fn replays_less(rt: HostRuntime) -> Result<(), Fail> {
-    let alloc = rt.alloc();
-    let table: [(&str, u8, &str); 4] = [
-        ("", 0, ""),
-        (
-            r#"{"op":"drop_pending","member":0}"#,
-            0,
-            "0: refused 90 NoSuchMember\n",
-        ),
-        (
-            r#"{"op":"candidate","identity":"","seed":"0101010101010101010101010101010101010101010101010101010101010101","expect":"candidate 0, message 0"},{"op":"create","candidate":1,"group":"","seed":"0202020202020202020202020202020202020202020202020202020202020202"}"#,
-            0,
-            "0: candidate 0, message 0\n1: refused 92 NoSuchCandidate\n",
-        ),
-        (
-            r#"{"op":"drop_pending","member":0,"expect":"dropped"},{"op":"drop_pending","member":1,"expect":"refused 90 NoSuchMember"}"#,
-            1,
-            "0: refused 90 NoSuchMember\n0: expected dropped\n1: refused 90 NoSuchMember\n",
-        ),
-    ];
-    for (events, status, text) in table {
-        let file = recording_of(alloc, events)?;
-        let (answer, out) = serve_file(alloc, WORDS, file.as_bytes())?;
-        assert_eq!(rt; answer, status, "for {events}");
-        assert!(rt; out.as_slice() == text.as_bytes(), "for {events}");
-    }
+    assert_eq!(rt; count_less(rt.alloc(), LESS)?, LESS.len());
     Ok(())
 }
+
+const REFUSED: &[FileCase] = &[
+    ("", 1, BAD_JSON),
+    ("zz", 1, BAD_JSON),
+    ("[]", 1, BAD_JSON),
+    (r#"{"version":3,"suite":"f001","events":[]}"#, 1, BAD_JSON),
+    (r#"{"version":1,"suite":"0001","events":[]}"#, 1, BAD_JSON),
+    (r#"{"version":1,"suite":"f001"}"#, 1, BAD_JSON),
+    (
+        r#"{"version":1,"suite":"f001","events":[{"op":"drop_pending"}]}"#,
+        1,
+        BAD_JSON,
+    ),
+    (
+        r#"{"version":1,"suite":"f001","events":[{"op":"drop_pending","member":0,"expect":null}]}"#,
+        1,
+        BAD_JSON,
+    ),
+    (
+        r#"{"version":1,"suite":"f001","events":[{"op":"deliver","member":0,"bytes":"0"}]}"#,
+        1,
+        NOT_HEX,
+    ),
+    (
+        r#"{"version":1,"suite":"f001","events":[{"op":"deliver","member":0,"bytes":"0"},{}]}"#,
+        1,
+        BAD_JSON,
+    ),
+];
 
 #[test]
 fn refuses_recordings(rt: HostRuntime) -> Result<(), Fail> {
-    let alloc = rt.alloc();
-    let table: [(&str, &str); 10] = [
-        ("", BAD_JSON),
-        ("zz", BAD_JSON),
-        ("[]", BAD_JSON),
-        (r#"{"version":3,"suite":"f001","events":[]}"#, BAD_JSON),
-        (r#"{"version":1,"suite":"0001","events":[]}"#, BAD_JSON),
-        (r#"{"version":1,"suite":"f001"}"#, BAD_JSON),
-        (
-            r#"{"version":1,"suite":"f001","events":[{"op":"drop_pending"}]}"#,
-            BAD_JSON,
-        ),
-        (
-            r#"{"version":1,"suite":"f001","events":[{"op":"drop_pending","member":0,"expect":null}]}"#,
-            BAD_JSON,
-        ),
-        (
-            r#"{"version":1,"suite":"f001","events":[{"op":"deliver","member":0,"bytes":"0"}]}"#,
-            NOT_HEX,
-        ),
-        (
-            r#"{"version":1,"suite":"f001","events":[{"op":"deliver","member":0,"bytes":"0"},{}]}"#,
-            BAD_JSON,
-        ),
-    ];
-    for (file, text) in table {
-        let (status, out) = serve_file(alloc, WORDS, file.as_bytes())?;
-        assert_eq!(rt; status, 1, "for {file}");
-        assert!(rt; out.as_slice() == text.as_bytes(), "for {file}");
-    }
+    assert_eq!(rt; count_met_by(rt.alloc(), WORDS, REFUSED)?, REFUSED.len());
     Ok(())
 }
 
-/// The write of each line fails in turn, at its first byte and at its line feed, and the last room takes all of the text.
 #[test]
 fn stops_where_a_write_fails(rt: HostRuntime) -> Result<(), Fail> {
-    let alloc = rt.alloc();
-    let request = request(alloc, WORDS);
-    let text = EXPECTED_TEXT;
-    for room in 0..text.len() + 1 {
-        if !fails_at_line(text.as_bytes(), room) {
-            continue;
-        }
-        let mut full = with_room(alloc, room)?;
-        let mut file = Some(EXPECTED.as_bytes());
-        let mut held = Vec::new(alloc);
-        let status = serve_silently(
-            alloc,
-            &request,
-            &mut file,
-            &mut Out::new(&mut full),
-            &mut held,
-        );
-        unless_out_of_memory(status, held.as_slice())?;
-        assert_eq!(rt; status, if room < text.len() { 3 } else { 1 });
-        assert!(rt; full.held.as_slice() == &text.as_bytes()[..room]);
-        assert!(rt; held.is_empty());
-    }
+    assert!(rt; is_cut_at_lines(rt.alloc(), WORDS, EXPECTED, EXPECTED_TEXT, 1)?);
     Ok(())
+}
+
+fn is_unread(alloc: Global) -> Result<bool, AllocError> {
+    let recording = recording_of(alloc, ALONE)?;
+    is_unread_at_each(alloc, WORDS, recording.as_str())
 }
 
 #[test]
 fn prints_nothing_where_a_read_fails(rt: HostRuntime) -> Result<(), Fail> {
-    let alloc = rt.alloc();
-    let request = request(alloc, WORDS);
-    let whole = recording_of(alloc, ALONE)?;
-    let recording = whole.as_str();
-    for given in 0..recording.len() + 1 {
-        let mut out = Vec::new(alloc);
-        let mut held = Vec::new(alloc);
-        let mut broken = Some(In::new(Broken {
-            rest: &recording.as_bytes()[..given],
-        }));
-        let status = serve_silently(alloc, &request, &mut broken, &mut out, &mut held);
-        unless_out_of_memory(status, held.as_slice())?;
-        assert_eq!(rt; status, 3);
-        assert!(rt; out.is_empty());
-        assert!(rt; held.as_slice() == b"mls: cannot read FILE\n".as_slice());
-    }
+    assert!(rt; is_unread(rt.alloc())?);
     Ok(())
 }
 
 /// Where a growth is refused, a beginning of the right text is out.
 #[test]
-fn stops_where_memory_is_wanting(rt: HostRuntime) -> Result<(), Fail> {
-    let alloc = rt.alloc();
-    let request = request(alloc, WORDS);
-    let mut file = Some(JOIN.as_bytes());
-    let mut out = Vec::new(alloc);
-    let mut held = Vec::new(alloc);
-    let status = serve_silently(alloc, &request, &mut file, &mut out, &mut held);
-    if status == 3 {
-        // The errors' own `Vec` may want memory too.
-        assert!(rt; OUT_OF_MEMORY.as_bytes().starts_with(held.as_slice()));
-        assert!(rt; JOIN_TEXT.as_bytes().starts_with(out.as_slice()));
-    } else {
-        assert_eq!(rt; status, 0);
-        assert!(rt; out.as_slice() == JOIN_TEXT.as_bytes());
-    }
-    Ok(())
+fn stops_where_memory_is_wanting(rt: HostRuntime) {
+    assert!(rt; is_begun(rt.alloc(), WORDS, JOIN.as_bytes(), 0, JOIN_TEXT.as_bytes()));
 }

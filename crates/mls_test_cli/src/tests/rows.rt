@@ -1,7 +1,7 @@
 //! Recordings of whole groups with what is printed of them, by way of `serve`. The replies, the tree hashes and the
 //! authenticators are those of the definitions, which an interpreter ran.
 
-use crate::tests::serve_file;
+use crate::tests::cases::{FileCase, count_met_by};
 use std::test::Fail;
 
 /// A sole member commits an empty list, and follows its commit.
@@ -434,25 +434,22 @@ const LAST_EPOCH_TEXT: &str = r#"0: candidate 0, message 0
 member 0: leaf 1, epoch 18446744073709551615, tree 7ce9103d5bcea6d7e2117fe38b07e4aaa512be96042731ddcfe2687434d34e45, authenticator eafe2101d126be015dbf1f99bab9cfbb64348e4e84a9c8c6fae7aa50cd8b4ca2
 "#;
 
+const GROUPS: &[FileCase] = &[
+    (SOLE, 0, SOLE_TEXT),
+    (JOIN, 0, JOIN_TEXT),
+    (EXPECTED, 1, EXPECTED_TEXT),
+    (PAIR, 0, PAIR_TEXT),
+    (CROSSING, 0, CROSSING_TEXT),
+    (HALVES, 0, HALVES_TEXT),
+    (THREE, 0, THREE_TEXT),
+    (SAID, 0, SAID_TEXT),
+    (FRONT_LEFT, 0, FRONT_LEFT_TEXT),
+    (LAST_EPOCH, 0, LAST_EPOCH_TEXT),
+];
+
 #[test]
 fn replays_groups(rt: HostRuntime) -> Result<(), Fail> {
-    let alloc = rt.alloc();
-    let table: [(&str, u8, &str); 10] = [
-        (SOLE, 0, SOLE_TEXT),
-        (JOIN, 0, JOIN_TEXT),
-        (EXPECTED, 1, EXPECTED_TEXT),
-        (PAIR, 0, PAIR_TEXT),
-        (CROSSING, 0, CROSSING_TEXT),
-        (HALVES, 0, HALVES_TEXT),
-        (THREE, 0, THREE_TEXT),
-        (SAID, 0, SAID_TEXT),
-        (FRONT_LEFT, 0, FRONT_LEFT_TEXT),
-        (LAST_EPOCH, 0, LAST_EPOCH_TEXT),
-    ];
-    for (recording, status, text) in table {
-        let (answer, out) = serve_file(alloc, &["mls", "replay", "FILE"], recording.as_bytes())?;
-        assert_eq!(rt; answer, status);
-        assert!(rt; out.as_slice() == text.as_bytes());
-    }
+    let words: &[&str] = &["mls", "replay", "FILE"];
+    assert_eq!(rt; count_met_by(rt.alloc(), words, GROUPS)?, GROUPS.len());
     Ok(())
 }

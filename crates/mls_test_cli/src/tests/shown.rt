@@ -1,7 +1,8 @@
 //! What `mls show --full` prints, and what `--raw` reads, by way of `serve`.
 
+use crate::tests::cases::{Case, count_met, is_met};
 use crate::tests::check::LINES;
-use crate::tests::serve_file;
+use std::alloc::{AllocError, Global};
 use std::test::Fail;
 
 /// A commit of a remove, a reference and a list of extensions, with a path of two nodes.
@@ -104,23 +105,20 @@ new_member.0.ciphertext: ff
 group_info_bytes: 3
 ";
 
+const FULL: &[&str] = &["mls", "show", "FILE", "--full"];
+
+const FULL_CASES: &[Case] = &[
+    (&["mls", "show", "FILE"], COMMIT, 0, COMMIT_LINES),
+    (FULL, COMMIT, 0, FULL_COMMIT_LINES),
+    (FULL, GROUP_INFO, 0, FULL_GROUP_INFO_LINES),
+    (FULL, WELCOME, 0, FULL_WELCOME_LINES),
+    (FULL, "00010003f001", 1, "refused: 2 Truncated\n"),
+    (FULL, "0", 1, "refused: 8 NotHex\n"),
+];
+
 #[test]
 fn shows_in_full(rt: HostRuntime) -> Result<(), Fail> {
-    let alloc = rt.alloc();
-    let full: &[&str] = &["mls", "show", "FILE", "--full"];
-    let table: [(&[&str], &str, u8, &str); 6] = [
-        (&["mls", "show", "FILE"], COMMIT, 0, COMMIT_LINES),
-        (full, COMMIT, 0, FULL_COMMIT_LINES),
-        (full, GROUP_INFO, 0, FULL_GROUP_INFO_LINES),
-        (full, WELCOME, 0, FULL_WELCOME_LINES),
-        (full, "00010003f001", 1, "refused: 2 Truncated\n"),
-        (full, "0", 1, "refused: 8 NotHex\n"),
-    ];
-    for (words, file, status, text) in table {
-        let (answer, out) = serve_file(alloc, words, file.as_bytes())?;
-        assert_eq!(rt; answer, status, "for {file}");
-        assert!(rt; out.as_slice() == text.as_bytes(), "for {file}");
-    }
+    assert_eq!(rt; count_met(rt.alloc(), FULL_CASES)?, FULL_CASES.len());
     Ok(())
 }
 
@@ -132,56 +130,63 @@ const WELCOME_BYTES: &[u8] =
 const TREE_BYTES: &[u8] =
     b"\x2b\x01\x01\x01\xbb\x01\xcc\x00\x01\x03bob\x02\x00\x01\x02\xf0\x01\x00\x00\x02\x00\x01\x01\x00\x00\x00\x00\x00\x00\x00\x00\xff\xff\xff\xff\xff\xff\xff\xff\x00\x01\xdd";
 
+const RAW: &[&str] = &["mls", "show", "FILE", "--raw"];
+
+const CHECK_RAW: &[&str] = &["mls", "check", "--raw", "FILE"];
+
+/// A case whose FILE are bytes.
+type BytesCase<'a> = (&'a [&'a str], &'a [u8], u8, &'a str);
+
+const READ: &[BytesCase] = &[
+    (
+        &["mls", "show", "--raw", "FILE", "--full"],
+        WELCOME_BYTES,
+        0,
+        FULL_WELCOME_LINES,
+    ),
+    (
+        RAW,
+        b"\x00\x01\x00\x03\xf0\x01",
+        1,
+        "refused: 2 Truncated\n",
+    ),
+    // Hex digits are bytes like others, and so are blanks.
+    (RAW, b"00010003f0010000", 1, "refused: 7 BadTag\n"),
+    (
+        RAW,
+        b"\x00\x01\x00\x03\xf0\x01\x00\x00\n",
+        1,
+        "refused: 3 Trailing\n",
+    ),
+    (CHECK_RAW, TREE_BYTES, 1, LINES),
+    (CHECK_RAW, b"\x00", 1, "refused: 20 TreeShape\n"),
+    (
+        &["mls", "check", "--raw", "--draw", "FILE"],
+        TREE_BYTES,
+        0,
+        "■ 0 \"bob\"\n",
+    ),
+    (
+        &["mls", "check", "--raw", "--group-info", "FILE"],
+        WELCOME_BYTES,
+        1,
+        "refused: 95 WrongMessageKind\n",
+    ),
+];
+
+/// How many cases, from the first on, are as told.
+fn count_read(alloc: Global, cases: &[BytesCase<'_>]) -> Result<usize, AllocError> {
+    for i in 0..cases.len() {
+        let (words, file, status, text) = cases[i];
+        if !is_met(alloc, words, file, status, text.as_bytes())? {
+            return Ok(i);
+        }
+    }
+    Ok(cases.len())
+}
+
 #[test]
 fn reads_bytes(rt: HostRuntime) -> Result<(), Fail> {
-    let alloc = rt.alloc();
-    let show: &[&str] = &["mls", "show", "FILE", "--raw"];
-    let check: &[&str] = &["mls", "check", "--raw", "FILE"];
-    let table: [(&[&str], &[u8], u8, &str); 8] = [
-        (
-            &["mls", "show", "--raw", "FILE", "--full"],
-            WELCOME_BYTES,
-            0,
-            FULL_WELCOME_LINES,
-        ),
-        (
-            show,
-            b"\x00\x01\x00\x03\xf0\x01".as_slice(),
-            1,
-            "refused: 2 Truncated\n",
-        ),
-        // Hex digits are bytes like others, and so are blanks.
-        (
-            show,
-            b"00010003f0010000".as_slice(),
-            1,
-            "refused: 7 BadTag\n",
-        ),
-        (
-            show,
-            b"\x00\x01\x00\x03\xf0\x01\x00\x00\n".as_slice(),
-            1,
-            "refused: 3 Trailing\n",
-        ),
-        (check, TREE_BYTES, 1, LINES),
-        (check, b"\x00".as_slice(), 1, "refused: 20 TreeShape\n"),
-        (
-            &["mls", "check", "--raw", "--draw", "FILE"],
-            TREE_BYTES,
-            0,
-            "■ 0 \"bob\"\n",
-        ),
-        (
-            &["mls", "check", "--raw", "--group-info", "FILE"],
-            WELCOME_BYTES,
-            1,
-            "refused: 95 WrongMessageKind\n",
-        ),
-    ];
-    for (words, file, status, text) in table {
-        let (answer, out) = serve_file(alloc, words, file)?;
-        assert_eq!(rt; answer, status, "for {text}");
-        assert!(rt; out.as_slice() == text.as_bytes(), "for {text}");
-    }
+    assert_eq!(rt; count_read(rt.alloc(), READ)?, READ.len());
     Ok(())
 }

@@ -1,8 +1,9 @@
 //! Checks and replays under suite 0x0001. Trees, hashes, messages and authenticators are those of `tools/outsider`, which
 //! is written from RFC 9420 in Python.
 
+use crate::tests::cases::{Case, FileCase, count_met, is_met};
 use crate::tests::rows::JOIN;
-use crate::tests::serve_file;
+use std::alloc::{AllocError, Global};
 use std::test::Fail;
 
 /// A tree of one member, whose leaf is that of its KeyPackage.
@@ -29,22 +30,20 @@ const FORGED_LINES: &str =
 const LONG_KEY_LINES: &str =
     "leaves: 1\nmembers: 1\ntree_hash: 6e6248d43aef1c9c887b226c60d628ee710d482df64978986d61349eb52926c3\nunmerged: ok\nparent_hashes: ok\nkeys: ok\nclients: ok\nsignatures: ok\ncapabilities: ok\nrefused: 36 BadKey\n";
 
+const CHECKED: &[&str] = &["mls", "check", "FILE", "--suite=0001", "--signatures"];
+
+const UNCHECKED: &[&str] = &["mls", "check", "FILE", "--suite=0001"];
+
+const SIGNED: &[Case] = &[
+    (CHECKED, TREE, 0, GOOD_LINES),
+    (UNCHECKED, TREE, 0, UNCHECKED_LINES),
+    (CHECKED, FORGED, 1, FORGED_LINES),
+    (CHECKED, LONG_KEY, 1, LONG_KEY_LINES),
+];
+
 #[test]
 fn checks_signatures_and_keys(rt: HostRuntime) -> Result<(), Fail> {
-    let alloc = rt.alloc();
-    let checked = ["mls", "check", "FILE", "--suite=0001", "--signatures"];
-    let unchecked = ["mls", "check", "FILE", "--suite=0001"];
-    let table: [(&[&str], &str, u8, &str); 4] = [
-        (checked.as_slice(), TREE, 0, GOOD_LINES),
-        (unchecked.as_slice(), TREE, 0, UNCHECKED_LINES),
-        (checked.as_slice(), FORGED, 1, FORGED_LINES),
-        (checked.as_slice(), LONG_KEY, 1, LONG_KEY_LINES),
-    ];
-    for (words, file, status, text) in table {
-        let (answer, out) = serve_file(alloc, words, file.as_bytes())?;
-        assert_eq!(rt; answer, status);
-        assert!(rt; out.as_slice() == text.as_bytes());
-    }
+    assert_eq!(rt; count_met(rt.alloc(), SIGNED)?, SIGNED.len());
     Ok(())
 }
 
@@ -81,54 +80,50 @@ const OTHER_SUITE: &str =
 const NO_NUMBER: &str =
     "error: invalid value 'x' for '--message <N>': invalid digit found in string\n\nFor more information, try '--help'.\n";
 
+const REPLAYS: &[Case] = &[
+    (
+        &["mls", "replay", "FILE", "--suite", "0001"],
+        GROUP,
+        0,
+        GROUP_TEXT,
+    ),
+    (&["mls", "replay", "FILE"], GROUP, 1, BAD_JSON),
+    (
+        &["mls", "replay", "FILE", "--suite", "0001"],
+        JOIN,
+        1,
+        BAD_JSON,
+    ),
+    (
+        &["mls", "replay", "FILE", "--suite=0001", "--message", "0"],
+        GROUP,
+        0,
+        MESSAGE_TEXT,
+    ),
+    (
+        &["mls", "replay", "FILE", "--suite=0001", "--message=4"],
+        GROUP,
+        1,
+        "refused: 94 NoSuchMessage\n",
+    ),
+    (
+        &["mls", "replay", "FILE", "--message=0"],
+        GROUP,
+        1,
+        BAD_JSON,
+    ),
+    (
+        &["mls", "replay", "FILE", "--suite=f002"],
+        "",
+        2,
+        OTHER_SUITE,
+    ),
+    (&["mls", "replay", "FILE", "--message=x"], "", 2, NO_NUMBER),
+];
+
 #[test]
 fn replays_under_both_suites(rt: HostRuntime) -> Result<(), Fail> {
-    let alloc = rt.alloc();
-    let table: [(&[&str], &str, u8, &str); 8] = [
-        (
-            &["mls", "replay", "FILE", "--suite", "0001"],
-            GROUP,
-            0,
-            GROUP_TEXT,
-        ),
-        (&["mls", "replay", "FILE"], GROUP, 1, BAD_JSON),
-        (
-            &["mls", "replay", "FILE", "--suite", "0001"],
-            JOIN,
-            1,
-            BAD_JSON,
-        ),
-        (
-            &["mls", "replay", "FILE", "--suite=0001", "--message", "0"],
-            GROUP,
-            0,
-            MESSAGE_TEXT,
-        ),
-        (
-            &["mls", "replay", "FILE", "--suite=0001", "--message=4"],
-            GROUP,
-            1,
-            "refused: 94 NoSuchMessage\n",
-        ),
-        (
-            &["mls", "replay", "FILE", "--message=0"],
-            GROUP,
-            1,
-            BAD_JSON,
-        ),
-        (
-            &["mls", "replay", "FILE", "--suite=f002"],
-            "",
-            2,
-            OTHER_SUITE,
-        ),
-        (&["mls", "replay", "FILE", "--message=x"], "", 2, NO_NUMBER),
-    ];
-    for (words, file, status, text) in table {
-        let (answer, out) = serve_file(alloc, words, file.as_bytes())?;
-        assert_eq!(rt; answer, status);
-        assert!(rt; out.as_slice() == text.as_bytes());
-    }
+    assert_eq!(rt; count_met(rt.alloc(), REPLAYS)?, REPLAYS.len());
     Ok(())
 }
 
@@ -155,39 +150,61 @@ const INFO_TREE_LINES: &str =
 const UNCHECKED_INFO_LINES: &str =
     "leaves: 1\nmembers: 1\ntree_hash: 6501c3d04d2fd448e5ba0ef1375b8fdd7ee3b2ef27d0ea981441ad4d387a6483\nunmerged: ok\nparent_hashes: ok\nkeys: ok\nclients: ok\nsignatures: not checked\ncapabilities: ok\nkey_forms: not checked\ntree_hash matches: ok\ngroup_info signature: not checked\n";
 
+/// GroupInfos, with the status and what is printed behind the lines of the tree.
+const INFOS: &[FileCase] = &[
+    (
+        GROUP_INFO,
+        0,
+        "tree_hash matches: ok\ngroup_info signature: ok\n",
+    ),
+    (WRONG_HASH, 1, "refused: 77 TreeHashWrong\n"),
+    (
+        WRONG_SIGNER,
+        1,
+        "tree_hash matches: ok\nrefused: 78 SignerWrong\n",
+    ),
+    (
+        FORGED_INFO,
+        1,
+        "tree_hash matches: ok\nrefused: 79 GroupInfoSignature\n",
+    ),
+];
+
+const INFO_CHECKED: &[&str] = &["mls", "check", "FILE", "--group-info", "--signatures"];
+
+const INFO_UNCHECKED: &[&str] = &["mls", "check", "FILE", "--group-info"];
+
+/// How many are so, from the first on.
+fn count_checked(alloc: Global, cases: &[FileCase<'_>]) -> Result<usize, AllocError> {
+    for i in 0..cases.len() {
+        let (file, status, text) = cases[i];
+        let whole = format!(in alloc; "{INFO_TREE_LINES}{text}")?;
+        if !is_met(
+            alloc,
+            INFO_CHECKED,
+            file.as_bytes(),
+            status,
+            whole.as_bytes(),
+        )? {
+            return Ok(i);
+        }
+    }
+    Ok(cases.len())
+}
+
 #[test]
 fn checks_group_infos(rt: HostRuntime) -> Result<(), Fail> {
-    let alloc = rt.alloc();
-    let info: &[&str] = &["mls", "check", "FILE", "--group-info", "--signatures"];
-    let unchecked: &[&str] = &["mls", "check", "FILE", "--group-info"];
-    let table: [(&str, u8, &str); 4] = [
-        (
-            GROUP_INFO,
-            0,
-            "tree_hash matches: ok\ngroup_info signature: ok\n",
-        ),
-        (WRONG_HASH, 1, "refused: 77 TreeHashWrong\n"),
-        (
-            WRONG_SIGNER,
-            1,
-            "tree_hash matches: ok\nrefused: 78 SignerWrong\n",
-        ),
-        (
-            FORGED_INFO,
-            1,
-            "tree_hash matches: ok\nrefused: 79 GroupInfoSignature\n",
-        ),
-    ];
-    for (file, status, text) in table {
-        let expected = format!(in alloc; "{INFO_TREE_LINES}{text}")?;
-        let (answer, out) = serve_file(alloc, info, file.as_bytes())?;
-        assert_eq!(rt; answer, status);
-        assert!(rt; out.as_slice() == expected.as_bytes());
-    }
-    for file in [GROUP_INFO, FORGED_INFO] {
-        let (answer, out) = serve_file(alloc, unchecked, file.as_bytes())?;
-        assert_eq!(rt; answer, 0);
-        assert!(rt; out.as_slice() == UNCHECKED_INFO_LINES.as_bytes());
-    }
+    assert_eq!(rt; count_checked(rt.alloc(), INFOS)?, INFOS.len());
+    Ok(())
+}
+
+const UNSIGNED: &[Case] = &[
+    (INFO_UNCHECKED, GROUP_INFO, 0, UNCHECKED_INFO_LINES),
+    (INFO_UNCHECKED, FORGED_INFO, 0, UNCHECKED_INFO_LINES),
+];
+
+#[test]
+fn checks_no_signatures(rt: HostRuntime) -> Result<(), Fail> {
+    assert_eq!(rt; count_met(rt.alloc(), UNSIGNED)?, UNSIGNED.len());
     Ok(())
 }

@@ -1,6 +1,6 @@
 //! What `mls vectors` prints, by way of `serve`.
 
-use crate::tests::serve_file;
+use crate::tests::cases::{FileCase, count_met_by, is_met};
 use std::alloc::{AllocError, Global};
 use std::test::Fail;
 
@@ -32,119 +32,142 @@ const NOT_HEX: &str = "refused: 8 NotHex\n";
 
 const WORDS: &[&str] = &["mls", "vectors", "FILE"];
 
+const JUDGED: &[FileCase] = &[
+    (EXAMPLE, 0, ALL_PASS),
+    ("[]", 0, "passed 0 of 0\n"),
+    (
+        r#"[{"kind":"header","length":63,"bytes":"3f"},{"kind":"header","length":64,"bytes":"40"}]"#,
+        1,
+        "0: pass\n1: fail\npassed 1 of 2\n",
+    ),
+    (
+        r#"[{"kind":"header","length":1073741823,"bytes":null}]"#,
+        1,
+        "0: fail\npassed 0 of 1\n",
+    ),
+    (
+        r#"[{"kind":"hmac","key":"","data":"","out":""}]"#,
+        1,
+        "0: fail\npassed 0 of 1\n",
+    ),
+    (
+        r#"[{"kind":"hkdf","salt":"","ikm":"","info":"","prk":"B613679A0814D9EC772F95D778C35FC5FF1697C493715653C6C712144292C5AD","okm":""}]"#,
+        0,
+        "0: pass\npassed 1 of 1\n",
+    ),
+    // By Python's `hmac`: the info is 00200c4d4c5320312e30207061746800.
+    (
+        r#"[{"kind":"expand","secret":"000102030405060708090a0b0c0d0e0f101112131415161718191a1b1c1d1e1f","label":"path","context":"","out":"a59d080c566bc7cbbf6378bddc7022730c03eba91883ea2c200811859f661889"}]"#,
+        0,
+        "0: pass\npassed 1 of 1\n",
+    ),
+    (
+        r#"[{"kind":"treemath","leaves":8,"node":6,"direct_path":[5,3,7],"copath":[4,1]},{"kind":"treemath","leaves":6,"node":0,"direct_path":[],"copath":[]}]"#,
+        1,
+        "0: fail\n1: pass\npassed 1 of 2\n",
+    ),
+    (
+        r#"[{"kind":"message","bytes":"","refused":7},{"kind":"message","bytes":"0002","refused":7}]"#,
+        1,
+        "0: fail\n1: pass\npassed 1 of 2\n",
+    ),
+    (
+        r#"[{"kind":"message","bytes":"","refused":18446744073709551615}]"#,
+        1,
+        "0: fail\npassed 0 of 1\n",
+    ),
+    (
+        r#"[{"kind":"tree","bytes":"00","tree_hash":""},{"kind":"tree","bytes":"2b010101bb01cc000103626f6202000102f0010000020001010000000000000000ffffffffffffffff0001dd","tree_hash":"00"}]"#,
+        1,
+        "0: fail\n1: fail\npassed 0 of 2\n",
+    ),
+    (
+        r#"[{"kind":"header","length":1,"bytes":"02","length":2}]"#,
+        0,
+        "0: pass\npassed 1 of 1\n",
+    ),
+];
+
 #[test]
 fn judges(rt: HostRuntime) -> Result<(), Fail> {
-    let alloc = rt.alloc();
-    let table: [(&str, u8, &str); 12] = [
-        (EXAMPLE, 0, ALL_PASS),
-        ("[]", 0, "passed 0 of 0\n"),
-        (
-            r#"[{"kind":"header","length":63,"bytes":"3f"},{"kind":"header","length":64,"bytes":"40"}]"#,
-            1,
-            "0: pass\n1: fail\npassed 1 of 2\n",
-        ),
-        (
-            r#"[{"kind":"header","length":1073741823,"bytes":null}]"#,
-            1,
-            "0: fail\npassed 0 of 1\n",
-        ),
-        (
-            r#"[{"kind":"hmac","key":"","data":"","out":""}]"#,
-            1,
-            "0: fail\npassed 0 of 1\n",
-        ),
-        (
-            r#"[{"kind":"hkdf","salt":"","ikm":"","info":"","prk":"B613679A0814D9EC772F95D778C35FC5FF1697C493715653C6C712144292C5AD","okm":""}]"#,
-            0,
-            "0: pass\npassed 1 of 1\n",
-        ),
-        // By Python's `hmac`: the info is 00200c4d4c5320312e30207061746800.
-        (
-            r#"[{"kind":"expand","secret":"000102030405060708090a0b0c0d0e0f101112131415161718191a1b1c1d1e1f","label":"path","context":"","out":"a59d080c566bc7cbbf6378bddc7022730c03eba91883ea2c200811859f661889"}]"#,
-            0,
-            "0: pass\npassed 1 of 1\n",
-        ),
-        (
-            r#"[{"kind":"treemath","leaves":8,"node":6,"direct_path":[5,3,7],"copath":[4,1]},{"kind":"treemath","leaves":6,"node":0,"direct_path":[],"copath":[]}]"#,
-            1,
-            "0: fail\n1: pass\npassed 1 of 2\n",
-        ),
-        (
-            r#"[{"kind":"message","bytes":"","refused":7},{"kind":"message","bytes":"0002","refused":7}]"#,
-            1,
-            "0: fail\n1: pass\npassed 1 of 2\n",
-        ),
-        (
-            r#"[{"kind":"message","bytes":"","refused":18446744073709551615}]"#,
-            1,
-            "0: fail\npassed 0 of 1\n",
-        ),
-        (
-            r#"[{"kind":"tree","bytes":"00","tree_hash":""},{"kind":"tree","bytes":"2b010101bb01cc000103626f6202000102f0010000020001010000000000000000ffffffffffffffff0001dd","tree_hash":"00"}]"#,
-            1,
-            "0: fail\n1: fail\npassed 0 of 2\n",
-        ),
-        (
-            r#"[{"kind":"header","length":1,"bytes":"02","length":2}]"#,
-            0,
-            "0: pass\npassed 1 of 1\n",
-        ),
-    ];
-    for (file, status, text) in table {
-        let (answer, out) = serve_file(alloc, WORDS, file.as_bytes())?;
-        assert_eq!(rt; answer, status, "for {file}");
-        assert!(rt; out.as_slice() == text.as_bytes());
-    }
+    assert_eq!(rt; count_met_by(rt.alloc(), WORDS, JUDGED)?, JUDGED.len());
     Ok(())
 }
 
+const REFUSED: &[FileCase] = &[
+    ("[", 1, BAD_JSON),
+    ("zz", 1, BAD_JSON),
+    ("{}", 1, BAD_JSON),
+    ("[7]", 1, BAD_JSON),
+    (r#"[{"length":1,"bytes":"01"}]"#, 1, BAD_JSON),
+    (
+        r#"[{"kind":"tree","bytes":"","tree_hash":null}]"#,
+        1,
+        BAD_JSON,
+    ),
+    (
+        r#"[{"kind":"header","length":1.0,"bytes":"01"}]"#,
+        1,
+        BAD_JSON,
+    ),
+    (
+        r#"[{"kind":"header","length":1e0,"bytes":"01"}]"#,
+        1,
+        BAD_JSON,
+    ),
+    (
+        r#"[{"kind":"header","length":-1,"bytes":"01"}]"#,
+        1,
+        BAD_JSON,
+    ),
+    (
+        r#"[{"kind":"header","length":4294967296,"bytes":null}]"#,
+        1,
+        BAD_JSON,
+    ),
+    (r#"[{"kind":"header","length":1,"bytes":1}]"#, 1, BAD_JSON),
+    (r#"[{"kind":"header","length":1}]"#, 1, BAD_JSON),
+    (
+        r#"[{"kind":"header","length":1,"bytes":"01","more":1}]"#,
+        1,
+        BAD_JSON,
+    ),
+    (
+        r#"[{"kind":"message","bytes":"","refused":18446744073709551616}]"#,
+        1,
+        BAD_JSON,
+    ),
+    (
+        r#"[{"kind":"message","bytes":"","refused":-0}]"#,
+        1,
+        BAD_JSON,
+    ),
+    (
+        r#"[{"kind":"treemath","leaves":1,"node":0,"direct_path":[],"copath":[0.5]}]"#,
+        1,
+        BAD_JSON,
+    ),
+    (
+        r#"[{"kind":"message","bytes":"0","refused":2}]"#,
+        1,
+        NOT_HEX,
+    ),
+    (
+        r#"[{"kind":"header","length":1,"bytes":" 01"}]"#,
+        1,
+        NOT_HEX,
+    ),
+    (
+        r#"[{"kind":"message","bytes":"0","refused":2},{}]"#,
+        1,
+        BAD_JSON,
+    ),
+];
+
 #[test]
 fn refuses_files(rt: HostRuntime) -> Result<(), Fail> {
-    let alloc = rt.alloc();
-    let table: [(&str, &str); 19] = [
-        ("[", BAD_JSON),
-        ("zz", BAD_JSON),
-        ("{}", BAD_JSON),
-        ("[7]", BAD_JSON),
-        (r#"[{"length":1,"bytes":"01"}]"#, BAD_JSON),
-        (r#"[{"kind":"tree","bytes":"","tree_hash":null}]"#, BAD_JSON),
-        (r#"[{"kind":"header","length":1.0,"bytes":"01"}]"#, BAD_JSON),
-        (r#"[{"kind":"header","length":1e0,"bytes":"01"}]"#, BAD_JSON),
-        (r#"[{"kind":"header","length":-1,"bytes":"01"}]"#, BAD_JSON),
-        (
-            r#"[{"kind":"header","length":4294967296,"bytes":null}]"#,
-            BAD_JSON,
-        ),
-        (r#"[{"kind":"header","length":1,"bytes":1}]"#, BAD_JSON),
-        (r#"[{"kind":"header","length":1}]"#, BAD_JSON),
-        (
-            r#"[{"kind":"header","length":1,"bytes":"01","more":1}]"#,
-            BAD_JSON,
-        ),
-        (
-            r#"[{"kind":"message","bytes":"","refused":18446744073709551616}]"#,
-            BAD_JSON,
-        ),
-        (r#"[{"kind":"message","bytes":"","refused":-0}]"#, BAD_JSON),
-        (
-            r#"[{"kind":"treemath","leaves":1,"node":0,"direct_path":[],"copath":[0.5]}]"#,
-            BAD_JSON,
-        ),
-        (r#"[{"kind":"message","bytes":"0","refused":2}]"#, NOT_HEX),
-        (r#"[{"kind":"header","length":1,"bytes":" 01"}]"#, NOT_HEX),
-        (
-            r#"[{"kind":"message","bytes":"0","refused":2},{}]"#,
-            BAD_JSON,
-        ),
-    ];
-    for (file, text) in table {
-        let (status, out) = serve_file(alloc, WORDS, file.as_bytes())?;
-        assert_eq!(rt; status, 1, "for {file}");
-        assert!(rt; out.as_slice() == text.as_bytes());
-    }
-    let (status, out) = serve_file(alloc, WORDS, b"[\xff]")?;
-    assert_eq!(rt; status, 1);
-    assert!(rt; out.as_slice() == BAD_JSON.as_bytes());
+    assert_eq!(rt; count_met_by(rt.alloc(), WORDS, REFUSED)?, REFUSED.len());
+    assert!(rt; is_met(rt.alloc(), WORDS, b"[\xff]", 1, BAD_JSON.as_bytes())?);
     Ok(())
 }
 
@@ -157,22 +180,26 @@ pub fn repeat_text(alloc: Global, text: &str, times: usize) -> Result<String, Al
     Ok(all)
 }
 
+/// A vector with a label of so many characters and an output of so many bytes.
+fn vector_of(alloc: Global, label: usize, okm: usize) -> Result<String, AllocError> {
+    let label = repeat_text(alloc, "a", label)?;
+    let okm = repeat_text(alloc, "00", okm)?;
+    format!(in alloc;
+        "[{{\"kind\":\"expand\",\"secret\":\"\",\"label\":\"{label}\",\"context\":\"\",\"out\":\"{okm}\"}}]"
+    )
+}
+
+/// Whether this is printed of it.
+fn is_judged(alloc: Global, label: usize, okm: usize, text: &str) -> Result<bool, AllocError> {
+    let file = vector_of(alloc, label, okm)?;
+    is_met(alloc, WORDS, file.as_bytes(), 1, text.as_bytes())
+}
+
 #[test]
 fn limits(rt: HostRuntime) -> Result<(), Fail> {
-    let alloc = rt.alloc();
-    for (label, okm, text) in [
-        (200, 1, "0: fail\npassed 0 of 1\n"),
-        (201, 1, BAD_JSON),
-        (1, 8161, "0: fail\npassed 0 of 1\n"),
-    ] {
-        let label = repeat_text(alloc, "a", label)?;
-        let okm = repeat_text(alloc, "00", okm)?;
-        let file = format!(in alloc;
-            "[{{\"kind\":\"expand\",\"secret\":\"\",\"label\":\"{label}\",\"context\":\"\",\"out\":\"{okm}\"}}]"
-        )?;
-        let (status, out) = serve_file(alloc, WORDS, file.as_bytes())?;
-        assert_eq!(rt; status, 1);
-        assert!(rt; out.as_slice() == text.as_bytes());
-    }
+    let failed = "0: fail\npassed 0 of 1\n";
+    assert!(rt; is_judged(rt.alloc(), 200, 1, failed)?);
+    assert!(rt; is_judged(rt.alloc(), 201, 1, BAD_JSON)?);
+    assert!(rt; is_judged(rt.alloc(), 1, 8161, failed)?);
     Ok(())
 }

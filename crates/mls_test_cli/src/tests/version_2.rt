@@ -1,11 +1,8 @@
 //! What `mls replay` prints of recordings of version 2, by way of `serve`.
 
+use crate::tests::cases::{FileCase, count_met_by, is_met};
+use crate::tests::faults::{is_begun, is_cut_at_lines};
 use crate::tests::replay::{ADA, ALONE, BEGUN};
-use crate::tests::{
-    OUT_OF_MEMORY, fails_at_line, serve_file, serve_silently, unless_out_of_memory, with_room,
-};
-use mls_cli_serve::request;
-use mls_cli_text::Out;
 use std::alloc::{AllocError, Global};
 use std::test::Fail;
 
@@ -62,12 +59,16 @@ const SAID: &str = r#"0: candidate 0, message 0
 21: proposed 0, known 0, advanced 0, removed 0, refused 2
 "#;
 
+const FIRST: &str =
+    "member 0: leaf 0, epoch 3, tree 807cd6012fc5d811527d590be8fa11d9a555169773c8b7076a30b49ed48d26e0, authenticator 2ce90c1788ed9b7294e8cc85af3b1a1aefadb9897e7637d6b34245c74e8ea62d";
+
+const SECOND: &str =
+    "member 1: leaf 1, epoch 3, tree 807cd6012fc5d811527d590be8fa11d9a555169773c8b7076a30b49ed48d26e0, authenticator 2ce90c1788ed9b7294e8cc85af3b1a1aefadb9897e7637d6b34245c74e8ea62d";
+
+const THIRD: &str = "member 2: gone";
+
 /// The lines of the members, which the same group ends with where each delivery is an event of its own.
-const MEMBERS: [&str; 3] = [
-    "member 0: leaf 0, epoch 3, tree 807cd6012fc5d811527d590be8fa11d9a555169773c8b7076a30b49ed48d26e0, authenticator 2ce90c1788ed9b7294e8cc85af3b1a1aefadb9897e7637d6b34245c74e8ea62d",
-    "member 1: leaf 1, epoch 3, tree 807cd6012fc5d811527d590be8fa11d9a555169773c8b7076a30b49ed48d26e0, authenticator 2ce90c1788ed9b7294e8cc85af3b1a1aefadb9897e7637d6b34245c74e8ea62d",
-    "member 2: gone",
-];
+const MEMBERS: &[&str] = &[FIRST, SECOND, THIRD];
 
 /// The group with these texts as its lines in the end.
 pub fn group_with(alloc: Global, texts: &str) -> Result<String, AllocError> {
@@ -84,111 +85,135 @@ fn printed(alloc: Global) -> Result<String, AllocError> {
     Ok(text)
 }
 
+/// These texts as the lines that are expected.
+fn quoted(alloc: Global, lines: &[&str]) -> Result<String, AllocError> {
+    let mut texts = String::new(alloc);
+    for line in lines {
+        if !texts.is_empty() {
+            texts.push_str(",")?;
+        }
+        texts.push_str("\"")?;
+        texts.push_str(line)?;
+        texts.push_str("\"")?;
+    }
+    Ok(texts)
+}
+
+/// What is printed of the group, and then of its lines.
+fn group_text(alloc: Global, differences: &str) -> Result<String, AllocError> {
+    let members = printed(alloc)?;
+    format!(in alloc; "{SAID}{members}{differences}")
+}
+
+/// Whether the group with these lines leaves this status, and prints this behind its own lines.
+fn is_delivered(
+    alloc: Global,
+    lines: &[&str],
+    status: u8,
+    differences: &str,
+) -> Result<bool, AllocError> {
+    let texts = quoted(alloc, lines)?;
+    let file = group_with(alloc, texts.as_str())?;
+    let text = group_text(alloc, differences)?;
+    is_met(alloc, WORDS, file.as_bytes(), status, text.as_bytes())
+}
+
+/// The lines that are expected, the status, and what is printed of the differences.
+type Expected<'a> = (&'a [&'a str], u8, &'a str);
+
 /// The same group as by single deliveries, and where its lines aren't those that are expected.
+const DELIVERED: &[Expected] = &[
+    (MEMBERS, 0, ""),
+    // A front of the lines.
+    (&[FIRST, SECOND], 1, "final 2: expected nothing\n"),
+    (
+        &[],
+        1,
+        "final 0: expected nothing\nfinal 1: expected nothing\nfinal 2: expected nothing\n",
+    ),
+    // One more.
+    (&[FIRST, SECOND, THIRD, ""], 1, "final 3: expected \n"),
+    (
+        &[FIRST, THIRD, THIRD, THIRD],
+        1,
+        "final 1: expected member 2: gone\nfinal 3: expected member 2: gone\n",
+    ),
+    // With a line feed it's another line.
+    (
+        &[FIRST, SECOND, "member 2: gone\\n"],
+        1,
+        "final 2: expected member 2: gone\n\n",
+    ),
+];
+
+/// How many are so, from the first on.
+fn count_delivered(alloc: Global, cases: &[Expected<'_>]) -> Result<usize, AllocError> {
+    for i in 0..cases.len() {
+        let (lines, status, differences) = cases[i];
+        if !is_delivered(alloc, lines, status, differences)? {
+            return Ok(i);
+        }
+    }
+    Ok(cases.len())
+}
+
 #[test]
 fn delivers_to_all(rt: HostRuntime) -> Result<(), Fail> {
-    let alloc = rt.alloc();
-    let [first, second, third] = MEMBERS;
-    let table: [(String, u8, String); 6] = [
-        (
-            format!(in alloc; "\"{first}\",\"{second}\",\"{third}\"")?,
-            0,
-            String::new(alloc),
-        ),
-        // A front of the lines.
-        (
-            format!(in alloc; "\"{first}\",\"{second}\"")?,
-            1,
-            String::from_str(alloc, "final 2: expected nothing\n")?,
-        ),
-        (
-            String::new(alloc),
-            1,
-            String::from_str(
-                alloc,
-                "final 0: expected nothing\nfinal 1: expected nothing\nfinal 2: expected nothing\n",
-            )?,
-        ),
-        // One more.
-        (
-            format!(in alloc; "\"{first}\",\"{second}\",\"{third}\",\"\"")?,
-            1,
-            String::from_str(alloc, "final 3: expected \n")?,
-        ),
-        (
-            format!(in alloc; "\"{first}\",\"{third}\",\"{third}\",\"{third}\"")?,
-            1,
-            format!(in alloc; "final 1: expected {third}\nfinal 3: expected {third}\n")?,
-        ),
-        // With a line feed it's another line.
-        (
-            format!(in alloc; "\"{first}\",\"{second}\",\"{third}\\n\"")?,
-            1,
-            format!(in alloc; "final 2: expected {third}\n\n")?,
-        ),
-    ];
-    let members = printed(alloc)?;
-    for (texts, status, differences) in &table {
-        let file = group_with(alloc, texts.as_str())?;
-        let expected = format!(in alloc; "{SAID}{members}{differences}")?;
-        let (answer, out) = serve_file(alloc, WORDS, file.as_bytes())?;
-        assert_eq!(rt; answer, *status, "for {texts}");
-        assert!(rt; out.as_slice() == expected.as_bytes(), "for {texts}");
-    }
+    assert_eq!(rt; count_delivered(rt.alloc(), DELIVERED)?, DELIVERED.len());
     Ok(())
 }
 
 /// Worlds without members.
+const NOBODY: &[FileCase] = &[
+    (r#"{"version":2,"suite":"f001","events":[]}"#, 0, ""),
+    (
+        r#"{"version":2,"suite":"f001","events":[],"final":[]}"#,
+        0,
+        "",
+    ),
+    (
+        r#"{"version":2,"suite":"f001","events":[],"final":["member 0: gone","nothing"]}"#,
+        1,
+        "final 0: expected member 0: gone\nfinal 1: expected nothing\n",
+    ),
+    (
+        r#"{"version":2,"suite":"f001","events":[{"op":"deliver_all","bytes":{"message":0},"expect":"proposed 0, known 0, advanced 0, removed 0, refused 0"}]}"#,
+        0,
+        "0: proposed 0, known 0, advanced 0, removed 0, refused 0\n",
+    ),
+    (
+        r#"{"version":2,"suite":"f001","events":[{"op":"deliver_all","bytes":"","expect":"refused 94 NoSuchMessage"}],"final":[]}"#,
+        1,
+        "0: proposed 0, known 0, advanced 0, removed 0, refused 0\n0: expected refused 94 NoSuchMessage\n",
+    ),
+];
+
 #[test]
 fn delivers_to_nobody(rt: HostRuntime) -> Result<(), Fail> {
-    let alloc = rt.alloc();
-    let table: [(&str, u8, &str); 5] = [
-        (r#"{"version":2,"suite":"f001","events":[]}"#, 0, ""),
-        (
-            r#"{"version":2,"suite":"f001","events":[],"final":[]}"#,
-            0,
-            "",
-        ),
-        (
-            r#"{"version":2,"suite":"f001","events":[],"final":["member 0: gone","nothing"]}"#,
-            1,
-            "final 0: expected member 0: gone\nfinal 1: expected nothing\n",
-        ),
-        (
-            r#"{"version":2,"suite":"f001","events":[{"op":"deliver_all","bytes":{"message":0},"expect":"proposed 0, known 0, advanced 0, removed 0, refused 0"}]}"#,
-            0,
-            "0: proposed 0, known 0, advanced 0, removed 0, refused 0\n",
-        ),
-        (
-            r#"{"version":2,"suite":"f001","events":[{"op":"deliver_all","bytes":"","expect":"refused 94 NoSuchMessage"}],"final":[]}"#,
-            1,
-            "0: proposed 0, known 0, advanced 0, removed 0, refused 0\n0: expected refused 94 NoSuchMessage\n",
-        ),
-    ];
-    for (file, status, text) in table {
-        let (answer, out) = serve_file(alloc, WORDS, file.as_bytes())?;
-        assert_eq!(rt; answer, status, "for {file}");
-        assert!(rt; out.as_slice() == text.as_bytes(), "for {file}");
-    }
+    assert_eq!(rt; count_met_by(rt.alloc(), WORDS, NOBODY)?, NOBODY.len());
     Ok(())
 }
 
+const BAD_JSON: &str = "refused: 9 BadJson\n";
+
+const REFUSED: &[FileCase] = &[
+    (r#"{"version":0,"suite":"f001","events":[]}"#, 1, BAD_JSON),
+    (r#"{"version":3,"suite":"f001","events":[]}"#, 1, BAD_JSON),
+    (
+        r#"{"version":1,"suite":"f001","events":[],"final":[]}"#,
+        1,
+        BAD_JSON,
+    ),
+    (
+        r#"{"version":1,"suite":"f001","events":[{"op":"deliver_all","bytes":""}]}"#,
+        1,
+        BAD_JSON,
+    ),
+];
+
 #[test]
 fn refuses_other_versions(rt: HostRuntime) -> Result<(), Fail> {
-    let alloc = rt.alloc();
-    for file in [
-        r#"{"version":0,"suite":"f001","events":[]}"#,
-        r#"{"version":3,"suite":"f001","events":[]}"#,
-        r#"{"version":1,"suite":"f001","events":[],"final":[]}"#,
-        r#"{"version":1,"suite":"f001","events":[{"op":"deliver_all","bytes":""}]}"#,
-    ] {
-        let (answer, out) = serve_file(alloc, WORDS, file.as_bytes())?;
-        assert_eq!(rt; answer, 1, "for {file}");
-        assert!(rt;
-            out.as_slice() == b"refused: 9 BadJson\n".as_slice(),
-            "for {file}"
-        );
-    }
+    assert_eq!(rt; count_met_by(rt.alloc(), WORDS, REFUSED)?, REFUSED.len());
     Ok(())
 }
 
@@ -206,56 +231,29 @@ fn alone_text(alloc: Global) -> Result<String, AllocError> {
     )
 }
 
-/// The write of each line fails in turn, at its first byte and at its line feed, and the last room takes all of the text.
-#[test]
-fn stops_where_a_write_fails(rt: HostRuntime) -> Result<(), Fail> {
-    let alloc = rt.alloc();
-    let request = request(alloc, WORDS);
+fn is_cut(alloc: Global) -> Result<bool, AllocError> {
     let file = alone(alloc)?;
     let text = alone_text(alloc)?;
-    for room in 0..text.len() + 1 {
-        if !fails_at_line(text.as_bytes(), room) {
-            continue;
-        }
-        let mut full = with_room(alloc, room)?;
-        let mut source = Some(file.as_bytes());
-        let mut held = Vec::new(alloc);
-        let status = serve_silently(
-            alloc,
-            &request,
-            &mut source,
-            &mut Out::new(&mut full),
-            &mut held,
-        );
-        unless_out_of_memory(status, held.as_slice())?;
-        assert_eq!(rt; status, if room < text.len() { 3 } else { 1 });
-        assert!(rt; full.held.as_slice() == &text.as_bytes()[..room]);
-        assert!(rt; held.is_empty());
-    }
+    is_cut_at_lines(alloc, WORDS, file.as_str(), text.as_str(), 1)
+}
+
+#[test]
+fn stops_where_a_write_fails(rt: HostRuntime) -> Result<(), Fail> {
+    assert!(rt; is_cut(rt.alloc())?);
     Ok(())
 }
 
-/// Where a growth is refused, a beginning of the right text is out.
+fn group_is_begun(alloc: Global) -> Result<bool, AllocError> {
+    let file = group_with(alloc, "\"member 0: gone\"")?;
+    let text = group_text(
+        alloc,
+        "final 0: expected member 0: gone\nfinal 1: expected nothing\nfinal 2: expected nothing\n",
+    )?;
+    Ok(is_begun(alloc, WORDS, file.as_bytes(), 1, text.as_bytes()))
+}
+
 #[test]
 fn stops_where_memory_is_wanting(rt: HostRuntime) -> Result<(), Fail> {
-    let alloc = rt.alloc();
-    let request = request(alloc, WORDS);
-    let file = group_with(alloc, "\"member 0: gone\"")?;
-    let members = printed(alloc)?;
-    let text = format!(in alloc;
-        "{SAID}{members}final 0: expected member 0: gone\nfinal 1: expected nothing\nfinal 2: expected nothing\n"
-    )?;
-    let mut source = Some(file.as_bytes());
-    let mut out = Vec::new(alloc);
-    let mut held = Vec::new(alloc);
-    let status = serve_silently(alloc, &request, &mut source, &mut out, &mut held);
-    if status == 3 {
-        // The errors' own `Vec` may want memory too.
-        assert!(rt; OUT_OF_MEMORY.as_bytes().starts_with(held.as_slice()));
-        assert!(rt; text.as_bytes().starts_with(out.as_slice()));
-    } else {
-        assert_eq!(rt; status, 1);
-        assert!(rt; out.as_slice() == text.as_bytes());
-    }
+    assert!(rt; group_is_begun(rt.alloc())?);
     Ok(())
 }

@@ -7,7 +7,7 @@ pub has_good_lists-requires : goal.has_good_lists-requires
 has_good_lists-requires c = ap (λ t. t.first) c.of.ensures
 
 pub tree_hash-tree_hash-requires-clause-keeps : goal.tree_hash-tree_hash-requires-clause-keeps
-tree_hash-tree_hash-requires-clause-keeps c = cold_by 3 _ c.args.cells.nodes c.args.cells.hashes c.requires.cold refl
+tree_hash-tree_hash-requires-clause-keeps c = cold_by c.args.height _ c.args.cells.now.nodes c.args.cells.now.hashes c.requires.cold refl
 
 pub first_wrong_hash-requires : goal.first_wrong_hash-requires
 first_wrong_hash-requires c =

@@ -1,7 +1,7 @@
 //! Secret trees of some sizes: their keys by RFC 9420, 9, with Python's hashlib and hmac (tools/secret-tree-keys prints
 //! them), each key once, and the ends of the window.
 
-use crate::speakers::bytes_of;
+use crate::conversations::speakers::bytes_of;
 use mls_kdf::Secret;
 use mls_secret_tree::{MessageKey, SecretTree, SecretTreeError};
 use std::alloc::{AllocError, Global};

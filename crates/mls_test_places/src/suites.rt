@@ -1,8 +1,11 @@
+//! Callers that are generic over a suite, called under three suites, and an auditor's check of a tree.
+
 ghost use Rattle.std.specs.Prelude.{◌<◌, ◌^◌, length};
 
-use super::*;
 use mls_cli_check::{CheckError, Unchecked};
-use mls_suite::Glass;
+use mls_suite::{Glass, OutOfMemory, Suite};
+use mls_test_suite::{Bare, hash_of_checked_tree, seal_and_open, sign_and_verify};
+use std::alloc::Global;
 use std::test::Fail;
 
 /// Three members of the group "g", of whom the first made a path, and a fourth that was added behind it; a Python

@@ -1,7 +1,7 @@
 //! Keys and messages by RFC 9420, 6.3 and 9, and by Python alone: tools/application-messages prints them.
 
-use crate::speakers::{Speakers, Text, bytes_of, converse_all, is_said};
-use crate::trio::{Trio, create_trio};
+use crate::conversations::speakers::{Speakers, Text, bytes_of, converse_all, is_said};
+use crate::conversations::trio::{Trio, create_trio};
 use mls_conversation::{ExchangeError, Opened};
 use mls_member::Member;
 use mls_secret_tree::{SecretTree, SecretTreeError};

@@ -1,10 +1,10 @@
 //! Other groups, other epochs, a member that is gone, and texts that aren't sealed.
 
-use crate::speakers::{
+use crate::conversations::speakers::{
     Speakers, Text, bytes_of, converse, converse_all, hears, new_speakers, number_of_conversing,
     number_of_hearing, number_of_saying, say,
 };
-use crate::trio::{Trio, create_trio};
+use crate::conversations::trio::{Trio, create_trio};
 use mls_conversation::{Conversation, ConversationError, ExchangeError};
 use mls_leaf::INPUT_LIMIT;
 use mls_suite::{Glass, Suite};

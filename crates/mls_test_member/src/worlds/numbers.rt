@@ -1,6 +1,6 @@
 //! The numbers that a world answers before its members do.
 
-use crate::script::{Act, Part, Parts, Said, Sent, run_in_each_way};
+use crate::worlds::script::{Act, Part, Parts, Said, Sent, run_in_each_way};
 use std::test::Fail;
 
 #[test]

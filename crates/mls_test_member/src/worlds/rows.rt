@@ -1,6 +1,6 @@
 //! Groups of two and three members, and what crosses between them.
 
-use crate::script::{
+use crate::worlds::script::{
     Act, Part, Parts, Said, Sent, reload_members, run_in_each_way, run_with_reloads,
 };
 use mls_model::{Effect, Event, Origin, Reply, Source};

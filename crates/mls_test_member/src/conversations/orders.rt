@@ -1,9 +1,9 @@
 //! Messages in whatever order, each once.
 
-use crate::speakers::{
+use crate::conversations::speakers::{
     Speakers, Text, converse, converse_all, hears, new_speakers, number_of_hearing, say,
 };
-use crate::trio::{Trio, create_trio};
+use crate::conversations::trio::{Trio, create_trio};
 use mls_conversation::{Conversation, ExchangeError};
 use mls_member::Member;
 use mls_suite::{Glass, Suite};

@@ -1,7 +1,7 @@
 //! Private messages of any sender, with any key, signature and padding, by RFC 9420, 6.3, with Python's hashlib and hmac:
 //! tools/mls_private_message/rows prints them.
 
-use crate::speakers::bytes_of;
+use crate::conversations::speakers::bytes_of;
 use mls_leaf::{Bytes, Codec, LeafError};
 use mls_private_message::{
     PrivateMessage, PrivateMessageError, SenderData, open_content, open_sender_data, read_content,

@@ -1,6 +1,6 @@
 //! The conversations of the three in their epoch, and what they are called with.
 
-use crate::trio::{Trio, create_trio};
+use crate::conversations::trio::{Trio, create_trio};
 use mls_conversation::{Conversation, ConversationError, ExchangeError, Opened};
 use mls_member::Member;
 use mls_suite::Suite;

@@ -1,0 +1,5 @@
+//! Worked rows with worlds.
+
+mod numbers;
+mod rows;
+mod script;
