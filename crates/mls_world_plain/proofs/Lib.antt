@@ -6,6 +6,7 @@ pub mod Readings
 pub mod Calling
 pub mod Committing
 pub mod Listing
+pub mod Naming
 pub mod Changing
 pub mod Entering
 pub mod Extending

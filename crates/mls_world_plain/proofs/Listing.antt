@@ -1,8 +1,8 @@
--- What lists of commits name and add, one after the other, and the first record that is looked for.
+-- What lists of commits add, one after the other, and the first record that is looked for.
 use Rattle.std.proofs.Common.{◌≡◌, ℕ, ◌+◌, ◌<◌, ◌≤◌, true, false, List, [], ◌∷◌, ◌++◌, length, drop, map, Option, Some, None, Result, Ok, Err, refl, sym, ap, subst, ◌∙◌, append_assoc, get_or, slice_get}
 use Rattle.std.specs.Prelude.{option_map, filter_map, ◌≢◌}
 use Rattle.std.specs.List.{cons_option}
-use Rattle.std.specs.Option.{option_to_list, option_copied}
+use Rattle.std.specs.Option.{option_copied}
 use denote.Ref.{Bor}
 use Rattle.std.proofs.lemmas.List.{append-nil, drop_all, map-append}
 use Rattle.std.proofs.lemmas.Option.{slice_get-map, slice_get_read}
@@ -19,73 +19,14 @@ use Rattle.mls_model.specs.PublicState.{Used}
 use Rattle.mls_model.specs.Proposals.{add_in, adds}
 use Rattle.mls_model.specs.Candidate.{Candidate}
 use Rattle.mls_model.specs.Make.{list_item_of}
-use Rattle.mls_model.specs.Member.{KeptProposal, kept_under, find_proposal, find_proposals, named_proposal, named_proposals}
-use Rattle.mls_model.specs.Journal.{Journal, names_in, used_of, adds_in}
+use Rattle.mls_model.specs.Member.{KeptProposal, kept_under, find_proposal, find_proposals}
+use Rattle.mls_model.specs.Journal.{Journal, used_of, adds_in}
 use Rattle.mls_model.specs.World.{World, item_of, items_of, commit_for_joiner}
 use Rattle.mls_public_group.proofs.Rest.{here, all_behind}
 use Rattle.mls_member.specs.Answers.{IsShortItem, AreShortItems}
 use Rattle.mls_world_plain.specs.CommitItems.{proposal_for, with_package}
 use Rattle.mls_world_plain.specs.CallParts.{adds_for, FirstIs}
 use Rattle.mls_world_plain.specs.StoredWorld.{Making, commit_made_of}
-
--- ---- names
-
-abbrev message_of : KeptProposal → List ℕ
-message_of k = k.message
-
-by_option : (o : Option KeptProposal) (ks : List KeptProposal) → map message_of (cons_option o ks) ≡ cons_option (option_map message_of o) (map message_of ks)
-by_option None ks = refl
-by_option (Some k) ks = refl
-
-names_cons : (kept : List KeptProposal) (x : ProposalOrRef) (xs : List ProposalOrRef) → names_in kept (x ∷ xs) ≡ cons_option (option_map message_of (named_proposal kept x)) (names_in kept xs)
-unfolding names_in named_proposals
-names_cons kept x xs = by_option (named_proposal kept x) (filter_map (named_proposal kept) xs)
-
--- names so far, and those of the rest
-abbrev pub AreNames : List KeptProposal → List (List ℕ) → List ProposalOrRef → List (List ℕ) → Type 0
-AreNames kept names rest all = names ++ names_in kept rest ≡ all
-
-one_named : (kept : List KeptProposal) (names : List (List ℕ)) (x : ProposalOrRef) (xs : List ProposalOrRef) (all : List (List ℕ)) (m : List ℕ) → Some m ≡ option_map message_of (named_proposal kept x) → AreNames kept names (x ∷ xs) all → AreNames kept (names ++ m ∷ []) xs all
-one_named kept names x xs all m e h =
-    let d : names_in kept (x ∷ xs) ≡ m ∷ names_in kept xs = names_cons kept x xs ∙ ap (λ (o : Option (List ℕ)). cons_option o (names_in kept xs)) (sym e) in
-    append_assoc names (m ∷ []) (names_in kept xs) ∙ ap (λ l. names ++ l) (sym d) ∙ h
-
-none_named : (kept : List KeptProposal) (names : List (List ℕ)) (x : ProposalOrRef) (xs : List ProposalOrRef) (all : List (List ℕ)) → None ≡ option_map message_of (named_proposal kept x) → AreNames kept names (x ∷ xs) all → AreNames kept names xs all
-none_named kept names x xs all e h =
-    let d : names_in kept (x ∷ xs) ≡ names_in kept xs = names_cons kept x xs ∙ ap (λ (o : Option (List ℕ)). cons_option o (names_in kept xs)) (sym e) in
-    ap (λ l. names ++ l) (sym d) ∙ h
-
--- of a list that is seen as a commit lists it
-abbrev pub NamesFrom : {X : Type 0} → (X → ProposalOrRef) → List KeptProposal → List X → ℕ → List (List ℕ) → Type 0
-NamesFrom f kept list i names = AreNames kept names (map f (drop i list)) (names_in kept (map f list))
-
-pub names_start : {X : Type 0} (f : X → ProposalOrRef) (kept : List KeptProposal) (list : List X) → NamesFrom f kept list 0 []
-names_start f kept list = refl
-
-pub names_next : {X : Type 0} (f : X → ProposalOrRef) (kept : List KeptProposal) (list : List X) (i : ℕ) (x : X) (names : List (List ℕ)) (m : List ℕ) → i < length list → x ≡ get_or list i x → NamesFrom f kept list i names → Some m ≡ option_map message_of (named_proposal kept (f x)) → NamesFrom f kept list (i + 1) (names ++ m ∷ [])
-names_next f kept list i x names m lt e h named_proposals =
-    one_named kept names (f x) (map f (drop (i + 1) list)) (names_in kept (map f list)) m named_proposals (subst (λ l. AreNames kept names (map f l) (names_in kept (map f list))) (here list i x lt e) h)
-
-pub names_pass : {X : Type 0} (f : X → ProposalOrRef) (kept : List KeptProposal) (list : List X) (i : ℕ) (x : X) (names : List (List ℕ)) → i < length list → x ≡ get_or list i x → NamesFrom f kept list i names → None ≡ option_map message_of (named_proposal kept (f x)) → NamesFrom f kept list (i + 1) names
-names_pass f kept list i x names lt e h named_proposals =
-    none_named kept names (f x) (map f (drop (i + 1) list)) (names_in kept (map f list)) named_proposals (subst (λ l. AreNames kept names (map f l) (names_in kept (map f list))) (here list i x lt e) h)
-
-pub names_step : {X : Type 0} (f : X → ProposalOrRef) (kept : List KeptProposal) (list : List X) (i : ℕ) (x : X) (names : List (List ℕ)) (o : Option (List ℕ)) → i < length list → x ≡ get_or list i x → o ≡ option_map message_of (named_proposal kept (f x)) → NamesFrom f kept list i names
-    → NamesFrom f kept list (i + 1) (names ++ option_to_list o)
-names_step f kept list i x names None lt e is h = subst (λ (l : List (List ℕ)). NamesFrom f kept list (i + 1) l) (sym (append-nil names)) (names_pass f kept list i x names lt e h is)
-names_step f kept list i x names (Some m) lt e is h = names_next f kept list i x names m lt e h is
-
-pub names_end : {X : Type 0} (f : X → ProposalOrRef) (kept : List KeptProposal) (list : List X) (i : ℕ) (names : List (List ℕ)) → length list ≤ i → NamesFrom f kept list i names → names ≡ names_in kept (map f list)
-unfolding names_in named_proposals
-names_end f kept list i names le h = sym (append-nil names) ∙ subst (λ l. AreNames kept names (map f l) (names_in kept (map f list))) (drop_all i list le) h
-
-map_same : (list : List ProposalOrRef) → map (λ (x : ProposalOrRef). x) list ≡ list
-map_same [] = refl
-map_same (x ∷ xs) = ap (λ (l : List ProposalOrRef). x ∷ l) (map_same xs)
-
--- of a list as it is
-pub names_same : (kept : List KeptProposal) (list : List ProposalOrRef) → names_in kept (map (λ (x : ProposalOrRef). x) list) ≡ names_in kept list
-names_same kept list = ap (λ (l : List ProposalOrRef). names_in kept l) (map_same list)
 
 -- ---- KeyPackages that are added
 

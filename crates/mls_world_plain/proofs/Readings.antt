@@ -7,7 +7,6 @@ use Rattle.std.specs.Prelude.{◌≢◌, IfOk, IfSome}
 use Rattle.std.specs.Int.{w16}
 use Rattle.mls_wire.specs.Reading.{uint}
 use Rattle.mls_wire.specs.Format.{IsBytes}
-use Rattle.mls_wire.specs.Combine.{vector}
 use Rattle.mls_wire.specs.Whole.{whole}
 use Rattle.mls_leaf.specs.Faults.{Spells}
 use Rattle.mls_leaf.specs.Limits.{input_limit}
@@ -18,7 +17,6 @@ use Rattle.mls_leaf.specs.declared.key_package.KeyPackage.{KeyPackage}
 use Rattle.mls_leaf.specs.declared.proposal.Proposal.{Proposal}
 use Rattle.mls_leaf.specs.declared.proposal.Proposal.TheVariants as proposes
 use Rattle.mls_types.specs.Message.{mls_message}
-use Rattle.mls_types.specs.Commit.{proposal_or_ref, proposal_or_ref_nonempty}
 use Rattle.mls_types.specs.SignedParts.{content_of_body}
 use Rattle.mls_types.specs.PublicMessage.{authenticated_content}
 use Rattle.mls_types.specs.Reference.{proposal_reference}
@@ -42,11 +40,13 @@ use Rattle.mls_public_group.specs.ShortProposal.{IsShortProposal}
 use Rattle.mls_public_group.proofs.ShortProposal.{short_parts}
 use Rattle.mls_model.specs.Messages.{decode_message, reference_of}
 use Rattle.mls_model.specs.World.{if_proposal}
-use Rattle.mls_model.specs.Journal.{list_in, list_of_body, list_of_message}
+use Rattle.mls_model.specs.Journal.{names_in, list_in, list_of_body, list_of_message}
+use Rattle.mls_model.specs.Member.{KeptProposal, named_proposals}
 use Rattle.mls_model.specs.Candidate.{package_message}
 use Rattle.mls_public_group.proofs.Lengths.{last_within, length-uint16}
 use Rattle.mls_member.proofs.LengthLaws.{within_limit}
 use Rattle.mls_member.proofs.ContentLaws.{IsPublic}
+use Rattle.mls_world_plain.specs.CommitItems.{AreNamesOf, IsList, IsListOfView, IsListOfMessage}
 use Rattle.mls_world_plain.specs.Sources.{read_package, read_reference, reference_in}
 
 -- ---- KeyPackages
@@ -161,38 +161,34 @@ no_reference bytes view lends none = other_reference bytes view lends.value lend
 
 -- ---- lists of commits
 
-listed : (body : SignedBody) (view : ContentView) (list path : List ℕ) (items : List ProposalOrRef) → view ≡ view_of.Commit list path → ShowsContent view (content_of_body body) → Spells (vector proposal_or_ref proposal_or_ref_nonempty) items list → items ≡ list_of_body body
-listed (body_of.Application t) view list path items is shows spells = absurd (subst (λ (x : ContentView). ShowsContent x (content_of_body (body_of.Application t))) is shows)
-listed (body_of.Proposal p) view list path items is shows spells = absurd (subst (λ (x : ContentView). ShowsContent x (content_of_body (body_of.Proposal p))) is shows)
-listed (body_of.Commit k tag) view list path items is shows spells =
-    let parts = subst (λ (x : ContentView). ShowsContent x (content_of_body (body_of.Commit k tag))) is shows in
-    spells_same (vector proposal_or_ref proposal_or_ref_nonempty) items k.proposals list spells parts.0
+listed : (body : SignedBody) (view : ContentView) (list path : List ℕ) → view ≡ view_of.Commit list path → ShowsContent view (content_of_body body) → IsList (Some list) (list_of_body body)
+listed (body_of.Application t) view list path is shows = absurd (subst (λ (x : ContentView). ShowsContent x (content_of_body (body_of.Application t))) is shows)
+listed (body_of.Proposal p) view list path is shows = absurd (subst (λ (x : ContentView). ShowsContent x (content_of_body (body_of.Proposal p))) is shows)
+listed (body_of.Commit k tag) view list path is shows = (subst (λ (x : ContentView). ShowsContent x (content_of_body (body_of.Commit k tag))) is shows).0
 
-pub list_is : (view : PublicMessageView) (shown : PublicMessage) (list path : List ℕ) (items : List ProposalOrRef) → ShowsPublic view shown → view.content.content ≡ view_of.Commit list path → Spells (vector proposal_or_ref proposal_or_ref_nonempty) items list → items ≡ list_of_body shown.content.body
-list_is view shown list path items shows is spells = listed shown.content.body view.content.content list path items is shows.content.content spells
+pub list_is : (view : PublicMessageView) (list path : List ℕ) → view.content.content ≡ view_of.Commit list path → IsListOfView view (Some list)
+list_is view list path is shown shows = listed shown.content.body view.content.content list path is shows.content.content
 
-unlisted : (body : SignedBody) (view : ContentView) → ((x y : List ℕ) → view ≢ view_of.Commit x y) → ShowsContent view (content_of_body body) → [] ≡ list_of_body body
+unlisted : (body : SignedBody) (view : ContentView) → ((x y : List ℕ) → view ≢ view_of.Commit x y) → ShowsContent view (content_of_body body) → IsList None (list_of_body body)
 unlisted (body_of.Application t) view none shows = refl
 unlisted (body_of.Proposal p) view none shows = refl
 unlisted (body_of.Commit k tag) (view_of.Commit x y) none shows = absurd (none x y refl)
 unlisted (body_of.Commit k tag) (view_of.Application x) none shows = absurd shows
 unlisted (body_of.Commit k tag) (view_of.Proposal x) none shows = absurd shows
 
-pub unlisted_is : (view : PublicMessageView) (shown : PublicMessage) → ShowsPublic view shown → ((x y : List ℕ) → view.content.content ≢ view_of.Commit x y) → [] ≡ list_of_body shown.content.body
-unlisted_is view shown shows none = unlisted shown.content.body view.content.content none shows.content.content
+pub unlisted_is : (view : PublicMessageView) → ((x y : List ℕ) → view.content.content ≢ view_of.Commit x y) → IsListOfView view None
+unlisted_is view none shown shows = unlisted shown.content.body view.content.content none shows.content.content
 
-public_list : (view : PublicMessageView) (items : List ProposalOrRef) (value : MlsMessage) → ((shown : PublicMessage) → ShowsPublic view shown → items ≡ list_of_body shown.content.body) → Shows (views.PublicMessage view) value → items ≡ list_of_message (Ok value)
-public_list view items (message_of.PublicMessage v) h shows = h v shows
-public_list view items (message_of.Welcome v) h shows = absurd shows
-public_list view items (message_of.GroupInfo v) h shows = absurd shows
-public_list view items (message_of.KeyPackage v) h shows = absurd shows
+public_list : (view : PublicMessageView) (part : Option (List ℕ)) (value : MlsMessage) → IsListOfView view part → Shows (views.PublicMessage view) value → IsList part (list_of_message (Ok value))
+public_list view part (message_of.PublicMessage v) h shows = h v shows
+public_list view part (message_of.Welcome v) h shows = absurd shows
+public_list view part (message_of.GroupInfo v) h shows = absurd shows
+public_list view part (message_of.KeyPackage v) h shows = absurd shows
 
-pub list_shown : {A E : Type 0} (items : A → List ProposalOrRef) (message : MessageView) (view : PublicMessageView) (r : Result A E) → message ≡ views.PublicMessage view → IfOk r (λ v. (shown : PublicMessage) → ShowsPublic view shown → items v ≡ list_of_body shown.content.body)
-    → IfOk r (λ v. (value : MlsMessage) → Shows message value → items v ≡ list_of_message (Ok value))
-list_shown items message view (Ok v) is h = λ value shows. public_list view (items v) value h (subst (λ (x : MessageView). Shows x value) is shows)
-list_shown items message view (Err e) is h = tt
+pub list_shown : (message : MessageView) (view : PublicMessageView) (part : Option (List ℕ)) → message ≡ views.PublicMessage view → IsListOfView view part → IsListOfMessage message part
+list_shown message view part is h value shows = public_list view part value h (subst (λ (x : MessageView). Shows x value) is shows)
 
-pub other_list : (message : MessageView) (value : MlsMessage) → ((x : PublicMessageView) → message ≢ views.PublicMessage x) → Shows message value → [] ≡ list_of_message (Ok value)
+other_list : (message : MessageView) (value : MlsMessage) → ((x : PublicMessageView) → message ≢ views.PublicMessage x) → Shows message value → IsList None (list_of_message (Ok value))
 other_list (views.PublicMessage x) value none shows = absurd (none x refl)
 other_list (views.KeyPackage x) (message_of.PublicMessage v) none shows = absurd shows
 other_list (views.Welcome x) (message_of.PublicMessage v) none shows = absurd shows
@@ -201,18 +197,36 @@ other_list message (message_of.KeyPackage v) none shows = refl
 other_list message (message_of.Welcome v) none shows = refl
 other_list message (message_of.GroupInfo v) none shows = refl
 
+pub no_list_shown : (message : MessageView) → ((x : PublicMessageView) → message ≢ views.PublicMessage x) → IsListOfMessage message None
+no_list_shown message none value shows = other_list message value none shows
+
 list_read : (bytes : List ℕ) (value : MlsMessage) → whole mls_message input_limit bytes ≡ Ok value → list_in bytes ≡ list_of_message (Ok value)
 unfolding list_in decode_message
 list_read bytes value e = rw e refl
 
-pub list_whole : {A E : Type 0} (items : A → List ProposalOrRef) (bytes : List ℕ) (message : MessageView) (r : Result A E) → LendsAll mls_message input_limit Shows bytes message → IfOk r (λ v. (value : MlsMessage) → Shows message value → items v ≡ list_of_message (Ok value))
-    → IfOk r (λ v. items v ≡ list_in bytes)
-list_whole items bytes message (Ok v) lends h = h lends.value lends.shows ∙ sym (list_read bytes lends.value lends.is_read)
-list_whole items bytes message (Err e) lends h = tt
+list_whole : (bytes : List ℕ) (message : MessageView) (part : Option (List ℕ)) → LendsAll mls_message input_limit Shows bytes message → IsListOfMessage message part → IsList part (list_in bytes)
+list_whole bytes message part lends h = subst (λ (l : List ProposalOrRef). IsList part l) (sym (list_read bytes lends.value lends.is_read)) (h lends.value lends.shows)
 
-pub no_list_read : (bytes : List ℕ) (n : ℕ) → whole mls_message input_limit bytes ≡ Err n → [] ≡ list_in bytes
+no_names : (kept : List KeptProposal) (list : List ProposalOrRef) → list ≡ [] → [] ≡ names_in kept list
+unfolding names_in named_proposals
+no_names kept list none = rw none refl
+
+-- ---- what commits name
+
+pub names_of_list : {A E : Type 0} (names : A → List (List ℕ)) (kept : List KeptProposal) (bytes part : List ℕ) (message : MessageView) (r : Result A E) → LendsAll mls_message input_limit Shows bytes message → IsListOfMessage message (Some part) → IfOk r (λ v. AreNamesOf kept part (names v))
+    → IfOk r (λ v. names v ≡ names_in kept (list_in bytes))
+names_of_list names kept bytes part message (Ok v) lends h named = named (list_in bytes) (list_whole bytes message (Some part) lends h)
+names_of_list names kept bytes part message (Err e) lends h named = tt
+
+pub no_names_shown : (kept : List KeptProposal) (bytes : List ℕ) (message : MessageView) → LendsAll mls_message input_limit Shows bytes message → IsListOfMessage message None → [] ≡ names_in kept (list_in bytes)
+no_names_shown kept bytes message lends h = no_names kept (list_in bytes) (list_whole bytes message None lends h)
+
+no_list_read : (bytes : List ℕ) (n : ℕ) → whole mls_message input_limit bytes ≡ Err n → list_in bytes ≡ []
 unfolding list_in decode_message
 no_list_read bytes n e = rw e refl
+
+pub no_names_read : (kept : List KeptProposal) (bytes : List ℕ) (n : ℕ) → whole mls_message input_limit bytes ≡ Err n → [] ≡ names_in kept (list_in bytes)
+no_names_read kept bytes n e = no_names kept (list_in bytes) (no_list_read bytes n e)
 
 -- ---- the message of a KeyPackage
 

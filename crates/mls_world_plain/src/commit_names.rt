@@ -2,57 +2,52 @@
 
 ghost use Rattle.std.specs.Prelude.{◌≡◌, map, IfOk, OnOk};
 ghost use Rattle.std.specs.Option.{option_copied};
-ghost use Rattle.mls_types.specs.declared.commit.ProposalOrRef as listings;
 ghost use Rattle.mls_model.specs.Make.{list_item_of};
 ghost use Rattle.mls_model.specs.Journal.{names_in};
-ghost use Rattle.mls_world_plain.specs.CommitItems.{name_of, reference_listed, with_name};
+ghost use Rattle.mls_world_plain.specs.CommitItems.{name_of, with_name, AreNamesOf, IsNameOf, TellsReference};
 
-use mls_leaf::Bytes;
+use mls_leaf::{Bytes, Items};
 use mls_member::Member;
 use mls_model::Item;
 use mls_suite::Suite;
 use mls_types::ProposalOrRef;
+use mls_view::{Part, ProposalOrRefView};
 use std::alloc::{AllocError, Global};
 
-/// One of a commit's list (RFC 9420, 12.4).
-pub(crate) trait Listed {
-    /// As the commit lists it.
-    ghost listed: { Self → listings.ProposalOrRef };
-
-    /// The reference that it is, where it is one.
-    fn reference(&self) -> Option<&[u8]>
-        ensures { option_copied result ≡ reference_listed (listed self.now) };
-}
-
-impl Listed for ProposalOrRef {
-    ghost listed = { λ x. x };
-
-    fn reference(&self) -> Option<&[u8]> {
-        match self {
-            ProposalOrRef::Proposal(_) => None,
-            ProposalOrRef::Reference(reference) => Some(reference.as_slice()),
-        }
-    }
-}
-
-impl Listed for Item {
-    ghost listed = { list_item_of };
-
-    fn reference(&self) -> Option<&[u8]> {
-        match self {
-            Item::Full(_) => None,
-            Item::Ref(reference) => Some(reference),
-        }
-    }
-}
-
 /// The message of the kept proposal that one of a list names.
-fn name_of<'a, T: Listed, S: Suite>(member: &'a Member<S>, listed: &T) -> Option<&'a [u8]>
-    ensures { option_copied result ≡ name_of member.now.kept (T.listed listed.now) }
+fn name_of<'a, S: Suite>(member: &'a Member<S>, item: &Item) -> Option<&'a [u8]>
+    ensures { option_copied result ≡ name_of member.now.kept (list_item_of item.now) }
 {
-    match listed.reference() {
-        Some(reference) => member.kept_message(reference),
-        None => None,
+    match item {
+        Item::Full(_) => None,
+        Item::Ref(reference) => member.kept_message(reference),
+    }
+}
+
+/// Whether one of a commit's list is a reference: its first byte is its type, and a reference's is 2 (RFC 9420, 12.4).
+fn is_reference(listed: &Part<'_, ProposalOrRef>) -> bool
+    ensures { TellsReference listed.now result }
+{
+    match listed.bytes() {
+        [kind, ..] => *kind == 2,
+        _ => false,
+    }
+}
+
+/// The message of the kept proposal that one of a commit's list names.
+fn name_listed<'a, S: Suite>(
+    member: &'a Member<S>,
+    listed: &Part<'_, ProposalOrRef>,
+) -> Option<&'a [u8]>
+    ensures { IsNameOf member.now.kept listed.now (option_copied result) }
+{
+    // A whole proposal names nothing, and isn't read past again.
+    if !is_reference(listed) {
+        return None;
+    }
+    match ProposalOrRefView::of(listed) {
+        ProposalOrRefView::Proposal(_) => None,
+        ProposalOrRefView::Reference(reference) => member.kept_message(reference),
     }
 }
 
@@ -75,16 +70,33 @@ fn push_some(
 }
 
 /// The messages of the kept proposals that a list names, in its order.
-pub(crate) fn names_in<T: Listed, S: Suite>(
+pub(crate) fn names_in<S: Suite>(
     alloc: Global,
     member: &Member<S>,
-    list: &[T],
+    list: &[Item],
 ) -> Result<Vec<Bytes>, AllocError>
-    ensures { IfOk result (λ v. v.items ≡ names_in member.now.kept (map T.listed list.now)) }
+    ensures { IfOk result (λ v. v.items ≡ names_in member.now.kept (map list_item_of list.now)) }
 {
     let mut names = Vec::new(alloc);
-    for listed in list {
-        let message = name_of(member, listed);
+    for item in list {
+        let message = name_of(member, item);
+        push_some(alloc, &mut names, message)?;
+    }
+    Ok(names)
+}
+
+/// The messages of the kept proposals that a commit's list names, in its order. The list is only read past.
+pub(crate) fn names_listed<S: Suite>(
+    alloc: Global,
+    member: &Member<S>,
+    list: &Part<'_, Items<ProposalOrRef>>,
+) -> Result<Vec<Bytes>, AllocError>
+    ensures { IfOk result (λ v. AreNamesOf member.now.kept list.now v.items) }
+{
+    let mut names = Vec::new(alloc);
+    let mut walk = list.walk();
+    while let Some(listed) = walk.next() {
+        let message = name_listed(member, &listed);
         push_some(alloc, &mut names, message)?;
     }
     Ok(names)

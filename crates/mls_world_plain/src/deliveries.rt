@@ -1,78 +1,79 @@
 //! Deliveries to members.
 
 ghost use Rattle.std.specs.Prelude.{◌≡◌, ◌≢◌, ◌<◌, ℕ, Err, length, IfOk};
+ghost use Rattle.std.specs.Option.{option_copied};
 ghost use Rattle.mls_member.specs.EarlyChecks.{early_checks as early_member_checks};
 ghost use Rattle.mls_model.specs.Verdict.{verdict};
 ghost use Rattle.mls_world_plain.specs.Faults.{number_of};
-ghost use Rattle.mls_model.specs.Journal.{list_in, entry_of};
+ghost use Rattle.mls_model.specs.Journal.{names_in, list_in, entry_of};
 ghost use Rattle.mls_world_plain.specs.CallAnswers.{DeliversTo};
 ghost use Rattle.mls_world_plain.specs.CallParts.{is_advanced, HandsOver, StoresEntry};
 ghost use Rattle.mls_world_plain.specs.CommitItems.{IsListOfMessage, IsListOfView};
 ghost use Rattle.mls_world_plain.specs.EarlyChecks.{early_delivery_checks, RefusesEarly};
 ghost use Rattle.mls_world_plain.specs.StoredWorld.{AreMore};
 
-use crate::commit_names::names_in;
+use crate::commit_names::names_listed;
 use crate::entry::Entry;
 use crate::error::WorldError;
 use crate::journal::Journals;
 use crate::seats::Seat;
 use crate::sources::bytes_of;
 use crate::world::PlainWorld;
-use mls_leaf::Bytes;
+use mls_leaf::{Bytes, Items};
 use mls_member::Member;
 use mls_model::{Effect, Source};
 use mls_suite::Suite;
 use mls_types::ProposalOrRef;
-use mls_view::{ContentView, MessageView, PublicMessageView};
+use mls_view::{ContentView, MessageView, Part, PublicMessageView};
 use std::alloc::{AllocError, Global};
 
-/// The list of the commit that a PublicMessage has, empty where it has none.
-fn list_of_body(
-    alloc: Global,
-    view: &PublicMessageView<'_>,
-) -> Result<Vec<ProposalOrRef>, AllocError>
-    ensures { IfOk result (λ v. IsListOfView view.now v.items) }
+/// The list of the commit that a PublicMessage has, none where it has no commit.
+fn list_of_body<'v, 'a>(
+    view: &'v PublicMessageView<'a>,
+) -> Option<&'v Part<'a, Items<ProposalOrRef>>>
+    ensures { IsListOfView view.now (option_copied result) }
 {
-    let ContentView::Commit { proposals, .. } = &view.content.content else {
-        return Ok(Vec::new(alloc));
-    };
-    match proposals.to_owned(alloc) {
-        Ok(list) => Ok(list.into_vec()),
-        // Want of memory: the list was read past when the view was made, so only its copy can fail.
-        Err(_) => Err(AllocError),
+    match &view.content.content {
+        ContentView::Commit { proposals, .. } => Some(proposals),
+        _ => None,
     }
 }
 
-/// The list of the commit that a message has, empty where it has none.
-fn list_of_message(
-    alloc: Global,
-    message: &MessageView<'_>,
-) -> Result<Vec<ProposalOrRef>, AllocError>
-    ensures { IfOk result (λ v. IsListOfMessage message.now v.items) }
+/// The list of the commit that a message has, none where it has no commit.
+fn list_of_message<'v, 'a>(
+    message: &'v MessageView<'a>,
+) -> Option<&'v Part<'a, Items<ProposalOrRef>>>
+    ensures { IsListOfMessage message.now (option_copied result) }
 {
     match message {
-        MessageView::PublicMessage(view) => list_of_body(alloc, view),
-        _ => Ok(Vec::new(alloc)),
+        MessageView::PublicMessage(view) => list_of_body(view),
+        _ => None,
     }
 }
 
-/// The list of the commit that bytes are, empty where they are none.
-fn list_in(alloc: Global, bytes: &[u8]) -> Result<Vec<ProposalOrRef>, AllocError>
-    ensures { IfOk result (λ v. v.items ≡ list_in bytes.now) }
+/// The messages of the kept proposals that the commit names which bytes are, none where they are no commit.
+fn names_of<S: Suite>(
+    alloc: Global,
+    member: &Member<S>,
+    bytes: &[u8],
+) -> Result<Vec<Bytes>, AllocError>
+    ensures { IfOk result (λ v. v.items ≡ names_in member.now.kept (list_in bytes.now)) }
 {
-    match MessageView::read(bytes) {
-        Ok(message) => list_of_message(alloc, &message),
-        Err(_) => Ok(Vec::new(alloc)),
+    let Ok(message) = MessageView::read(bytes) else {
+        return Ok(Vec::new(alloc));
+    };
+    match list_of_message(&message) {
+        Some(list) => names_listed(alloc, member, list),
+        None => Ok(Vec::new(alloc)),
     }
 }
 
 /// The entry of a commit that a member would follow.
-#[tactic(auto, using(crate::proofs::Listing::names_same), unfolding(mls_model::specs::Journal::entry_of))]
+#[tactic(auto, unfolding(mls_model::specs::Journal::entry_of))]
 fn entry_of<S: Suite>(alloc: Global, member: &Member<S>, bytes: &[u8]) -> Result<Entry, AllocError>
     ensures { IfOk result (λ e. e ≡ entry_of member.now bytes.now) }
 {
-    let list = list_in(alloc, bytes)?;
-    let names = names_in(alloc, member, &list)?;
+    let names = names_of(alloc, member, bytes)?;
     let commit = Bytes::from_vec(Vec::from_slice(alloc, bytes)?);
     Ok(Entry { commit, names })
 }

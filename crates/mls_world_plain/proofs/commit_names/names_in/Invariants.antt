@@ -1,5 +1,5 @@
-use Rattle.mls_world_plain.proofs.Listing.{NamesFrom}
+use Rattle.mls_world_plain.proofs.Naming.{NamesFrom}
 use Rattle.mls_world_plain.proofs.commit_names.names_in.Given as goal
 
-abbrev pub invariant-loop-listed : goal.invariant-loop-listed
-invariant-loop-listed g l = NamesFrom g.T.Listed.listed l.member.kept l.list l.listed-index l.names.items
+abbrev pub invariant-loop-item : goal.invariant-loop-item
+invariant-loop-item g l = NamesFrom l.member.kept l.list l.item-index l.names.items
