@@ -95,7 +95,11 @@ fn whole_resolution(alloc: Global) -> Result<Vec<u64>, LeafError> {
     Ok(out)
 }
 
-fn add_resolutions(tree: &Subtree<'_>, nodes: &[u32], out: &mut Vec<u64>) -> Result<(), AllocError> {
+fn add_resolutions(
+    tree: &Subtree<'_>,
+    nodes: &[u32],
+    out: &mut Vec<u64>,
+) -> Result<(), AllocError> {
     for x in nodes {
         resolution_at(tree, *x, out)?;
     }
@@ -126,8 +130,14 @@ fn are_reached(alloc: Global) -> Result<(bool, bool, bool), LeafError> {
 
 #[test]
 fn resolutions_of_the_example(rt: HostRuntime) -> Result<(), Fail> {
-    assert_eq!(rt; whole_resolution(rt.alloc())?.as_slice(), [3, 2, 9, 14].as_slice());
-    assert_eq!(rt; resolutions(rt.alloc(), &[3, 4, 15])?.as_slice(), [3, 2].as_slice());
+    assert_eq!(rt;
+        whole_resolution(rt.alloc())?.as_slice(),
+        [3, 2, 9, 14].as_slice()
+    );
+    assert_eq!(rt;
+        resolutions(rt.alloc(), &[3, 4, 15])?.as_slice(),
+        [3, 2].as_slice()
+    );
     assert_eq!(rt; are_reached(rt.alloc())?, (true, false, false));
     Ok(())
 }
@@ -149,7 +159,10 @@ fn paths(alloc: Global, leaves: &[u32]) -> Result<Vec<u32>, LeafError> {
 
 #[test]
 fn paths_of_the_example(rt: HostRuntime) -> Result<(), Fail> {
-    assert_eq!(rt; paths(rt.alloc(), &[0, 3, 7])?.as_slice(), [1, 3, 7, 3, 7, 11, 7].as_slice());
+    assert_eq!(rt;
+        paths(rt.alloc(), &[0, 3, 7])?.as_slice(),
+        [1, 3, 7, 3, 7, 11, 7].as_slice()
+    );
     Ok(())
 }
 

@@ -1,6 +1,8 @@
 //! Each bit of a message changed, and each end cut off.
 
-use crate::conversations::speakers::{Speakers, Text, bytes_of, hears, new_speakers, number_of_hearing};
+use crate::conversations::speakers::{
+    Speakers, Text, bytes_of, hears, new_speakers, number_of_hearing,
+};
 use mls_conversation::{Conversation, ExchangeError};
 use mls_suite::{Glass, Suite};
 use std::alloc::{AllocError, Global};
