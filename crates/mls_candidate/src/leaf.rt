@@ -10,11 +10,12 @@ ghost use Rattle.mls_candidate.specs.Leaves.{IsLeafOf, IsPublicKey, Renews, Rene
 
 use mls_kdf::{Secret, Seed};
 use mls_leaf::{
-    Bytes, Capabilities, Credential, Items, LeafNode, LeafSource, bytes_or_out_of_memory,
+    Bytes, Capabilities, Credential, Items, LeafNode, LeafSource, SpelledCapabilities,
+    bytes_or_out_of_memory,
 };
 use mls_suite::{KeyPair, OutOfMemory, Suite, sign_with_label};
 use mls_treekem::leaf_seed;
-use std::alloc::Global;
+use std::alloc::{AllocError, Global};
 
 /// The key pair of the leaf that is made of a seed.
 #[tactic(auto, unfolding(mls_model::specs::Candidate::leaf_key_of))]
@@ -42,7 +43,7 @@ fn one_number(alloc: Global, number: u16) -> Result<Items<u16>, OutOfMemory>
 
 /// What each leaf that is made can handle: version 1, the suite and credential 1 (RFC 9420, 7.2).
 #[tactic(auto, unfolding(mls_model::specs::Candidate::made_capabilities))]
-fn made_capabilities<S: Suite>(alloc: Global) -> Result<Capabilities, OutOfMemory>
+fn made_lists<S: Suite>(alloc: Global) -> Result<Capabilities, OutOfMemory>
     ensures { IfOk result (λ v. v ≡ made_capabilities S.crypto) }
 {
     Ok(Capabilities {
@@ -52,6 +53,18 @@ fn made_capabilities<S: Suite>(alloc: Global) -> Result<Capabilities, OutOfMemor
         proposals: Items::from_vec(Vec::new(alloc)),
         credentials: one_number(alloc, 1)?,
     })
+}
+
+/// The same as they are spelled.
+fn made_capabilities<S: Suite>(alloc: Global) -> Result<SpelledCapabilities, OutOfMemory>
+    ensures { IfOk result (λ v. v ≡ made_capabilities S.crypto) }
+{
+    let lists = made_lists::<S>(alloc)?;
+    match SpelledCapabilities::of(alloc, &lists) {
+        Ok(capabilities) => Ok(capabilities),
+        // Want of memory, since the lists are short.
+        Err(_) => Err(AllocError),
+    }
 }
 
 /// A leaf that is not signed yet (RFC 9420, 7.2).

@@ -38,10 +38,7 @@ pub fn leaf_signed<S: Suite>(
 pub fn leaf_capable(leaf: &LeafNode, suite: u16) -> bool
     ensures { result ≡ is_capable suite leaf.now }
 {
-    let capabilities = &leaf.capabilities;
-    capabilities.versions.as_slice().contains(&1)
-        && capabilities.cipher_suites.as_slice().contains(&suite)
-        && capabilities.credentials.as_slice().contains(&1)
+    leaf.capabilities.support(1, suite, 1)
 }
 
 /// Whether the key package's signature is its own (RFC 9420, 10).

@@ -5,7 +5,9 @@ ghost use Rattle.mls_cli_text.specs.Text.{bytes, digits, entries_of, entry, entr
 ghost use Rattle.mls_cli_show.specs.Package.{capabilities_entries, key_package_entries, leaf_entries, source_entries};
 
 use mls_cli_text::{Field, Line, Prefix, append_line, append_lines, line_with};
-use mls_leaf::{Bytes, Capabilities, Credential, KeyPackage, LeafNode, LeafSource};
+use mls_leaf::{
+    Bytes, Capabilities, Credential, KeyPackage, LeafNode, LeafSource, SpelledCapabilities,
+};
 use std::alloc::{AllocError, Global};
 
 fn identity_lines(
@@ -31,18 +33,19 @@ fn identity_lines(
 fn capability_lines(
     alloc: Global,
     prefix: Prefix,
-    capabilities: Capabilities,
+    capabilities: SpelledCapabilities,
 ) -> Result<Vec<Line>, AllocError>
     ensures { IfOk result (λ lines. entries_of lines
         ≡ capabilities_entries (prefix_text prefix) capabilities) }
 {
+    let lists = capabilities.to_lists(alloc)?;
     let Capabilities {
         versions,
         cipher_suites,
         extensions,
         proposals,
         credentials,
-    } = capabilities;
+    } = lists;
     Ok(vec![in alloc;
         line_with(prefix, "leaf.versions", Field::Numbers(versions)),
         line_with(prefix, "leaf.cipher_suites", Field::Numbers(cipher_suites)),

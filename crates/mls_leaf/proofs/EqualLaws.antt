@@ -61,7 +61,7 @@ same_leaf v w e =
     ∙ ap (λ (x : LeafSource). leaf w.encryption_key w.signature_key w.credential.identity w.capabilities x v.signature) e.1.1.1.1.0
     ∙ ap (λ (x : List ℕ). leaf w.encryption_key w.signature_key w.credential.identity w.capabilities w.source x) e.1.1.1.1.1
 
-capabilities_decide : (v w : Capabilities) → Decides ((capables.ghosts).eq v w) (v ≡ w)
+pub capabilities_decide : (v w : Capabilities) → Decides ((capables.ghosts).eq v w) (v ≡ w)
 capabilities_decide v w = decides_as (same_capabilities v w) (λ e. (ap (λ (x : Capabilities). x.versions) e, (ap (λ (x : Capabilities). x.cipher_suites) e, (ap (λ (x : Capabilities). x.extensions) e, (ap (λ (x : Capabilities). x.proposals) e, ap (λ (x : Capabilities). x.credentials) e)))))
     (both_decide (bytes_eq-Decides v.versions w.versions) (both_decide (bytes_eq-Decides v.cipher_suites w.cipher_suites) (both_decide (bytes_eq-Decides v.extensions w.extensions)
     (both_decide (bytes_eq-Decides v.proposals w.proposals) (bytes_eq-Decides v.credentials w.credentials)))))

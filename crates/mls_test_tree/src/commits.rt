@@ -62,17 +62,17 @@ fn path_hash(tree: &mut PublicTree, keys: &[Bytes]) -> Option<Vec<u8>> {
 }
 
 /// A leaf of a commit with this encryption key and parent hash.
-fn leaf_of(alloc: Global, key: Vec<u8>, hash: Vec<u8>) -> LeafNode {
-    let mut new = leaf(alloc, key);
+fn leaf_of(alloc: Global, key: Vec<u8>, hash: Vec<u8>) -> Option<LeafNode> {
+    let mut new = leaf(alloc, key)?;
     new.source = LeafSource::Commit {
         parent_hash: Bytes::from_vec(hash),
     };
-    new
+    Some(new)
 }
 
 /// The committer's new leaf, with the parent hash of its path.
 fn new_leaf(alloc: Global, hash: Vec<u8>) -> Option<LeafNode> {
-    Some(leaf_of(alloc, public(alloc, &leaf_seed(&SEED))?, hash))
+    leaf_of(alloc, public(alloc, &leaf_seed(&SEED))?, hash)
 }
 
 /// Merges leaf 1's path.

@@ -5,6 +5,8 @@
 #[cfg(test)]
 mod arrays;
 #[cfg(test)]
+mod capabilities;
+#[cfg(test)]
 mod checks;
 #[cfg(test)]
 mod commits;

@@ -172,7 +172,7 @@ fn update(tree: &mut PublicTree, leaf: LeafNode) -> Option<()> {
 /// A tree of four, in which leaf 3 has an empty key.
 fn unfit(alloc: Global) -> Option<Box<PublicTree>> {
     let mut tree = four(alloc)?;
-    update(&mut tree, leaf(alloc, Vec::new(alloc)))?;
+    update(&mut tree, leaf(alloc, Vec::new(alloc))?)?;
     Some(tree)
 }
 

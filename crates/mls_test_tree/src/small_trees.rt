@@ -3,8 +3,9 @@
 //! call is refused or memory runs out, and give what a test holds in a box, since a proof drops all that is held at
 //! each end.
 
+use crate::capabilities::no_capabilities;
 use mls_kdf::{Secret, derive_secret};
-use mls_leaf::{Bytes, Capabilities, Credential, Items, LeafNode, LeafSource};
+use mls_leaf::{Bytes, Credential, LeafNode, LeafSource};
 use mls_suite::{Glass, KeyPair, Suite};
 use mls_tree::PublicTree;
 use mls_treekem::{PathSecrets, PrivatePath, TreeKemError, seal_path};
@@ -20,28 +21,19 @@ fn empty(alloc: Global) -> Bytes {
     Bytes::from_vec(Vec::new(alloc))
 }
 
-fn numbers(alloc: Global) -> Items<u16> {
-    Items::from_vec(Vec::new(alloc))
-}
-
 /// A leaf with this encryption key.
-pub(crate) fn leaf(alloc: Global, key: Vec<u8>) -> LeafNode {
-    LeafNode {
+pub(crate) fn leaf(alloc: Global, key: Vec<u8>) -> Option<LeafNode> {
+    let capabilities = no_capabilities(alloc).ok()?;
+    Some(LeafNode {
         encryption_key: Bytes::from_vec(key),
         signature_key: empty(alloc),
         credential: Credential {
             identity: empty(alloc),
         },
-        capabilities: Capabilities {
-            versions: numbers(alloc),
-            cipher_suites: numbers(alloc),
-            extensions: numbers(alloc),
-            proposals: numbers(alloc),
-            credentials: numbers(alloc),
-        },
+        capabilities,
         source: LeafSource::Update,
         signature: empty(alloc),
-    }
+    })
 }
 
 /// The public key of a private key.
@@ -61,7 +53,7 @@ pub(crate) fn next(secret: &Secret) -> Secret {
 
 /// A leaf whose private key is 32 such bytes.
 pub(crate) fn member(alloc: Global, byte: u8) -> Option<LeafNode> {
-    Some(leaf(alloc, public(alloc, &[byte; 32])?))
+    leaf(alloc, public(alloc, &[byte; 32])?)
 }
 
 /// The tree of one member, whose private key is 32 such bytes.

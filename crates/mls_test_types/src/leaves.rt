@@ -111,6 +111,28 @@ fn leaves_compared(rt: HostRuntime) -> Result<(), Fail> {
     holds(&rt, are_told_apart(rt.alloc()), "the signatures dd and de")
 }
 
+/// Whether the capabilities of a leaf are those of its lists, and support what these have.
+fn are_kept(alloc: Global) -> Result<bool, LeafError> {
+    let leaf = value_of::<LeafNode>(alloc, UPDATED_LEAF)?;
+    let lists = leaf.capabilities.to_lists(alloc)?;
+    let made = SpelledCapabilities::of(alloc, &lists)?;
+    Ok(
+        made == leaf.capabilities
+            && made.bytes() == [2, 0, 1, 2, 0xf0, 1, 0, 0, 2, 0, 1]
+            && made.support(1, 0xf001, 1)
+            && !made.support(1, 0xf002, 1),
+    )
+}
+
+#[test]
+fn capabilities(rt: HostRuntime) -> Result<(), Fail> {
+    holds(
+        &rt,
+        are_kept(rt.alloc()),
+        "version 1, suite f001, credential 1",
+    )
+}
+
 fn is_extension(alloc: Global, digits: &str, kind: u16, data: &[u8]) -> Result<bool, LeafError> {
     let extension = value_of::<Extension>(alloc, digits)?;
     Ok(extension.kind == kind && extension.content.as_slice() == data)

@@ -8,10 +8,8 @@ ghost use Rattle.mls_tree_hash.specs.Feeds.{Feeds};
 ghost use Rattle.mls_tree_hash.specs.Originals.{parent_without};
 
 use crate::feed::Feed;
-use crate::pieces::{
-    add_entries, add_numbers, add_remaining, add_u8, add_u16, add_u64, add_vector,
-};
-use mls_leaf::{Capabilities, Credential, LeafNode, LeafSource, ParentNode};
+use crate::pieces::{add_entries, add_remaining, add_u8, add_u16, add_u64, add_vector};
+use mls_leaf::{Credential, LeafNode, LeafSource, ParentNode, SpelledCapabilities};
 
 #[tactic(auto, using(crate::proofs::Feeding::feeding), unfolding(mls_leaf::specs::Leaf::credential))]
 fn add_credential(feed: &mut Feed, credential: &Credential)
@@ -21,15 +19,10 @@ fn add_credential(feed: &mut Feed, credential: &Credential)
     add_vector(feed, credential.identity.as_slice());
 }
 
-#[tactic(auto, using(crate::proofs::Feeding::feeding), unfolding(mls_leaf::specs::Leaf::capabilities))]
-fn add_capabilities(feed: &mut Feed, capabilities: &Capabilities)
+fn add_capabilities(feed: &mut Feed, capabilities: &SpelledCapabilities)
     ensures { Feeds feed.old (capabilities_format.spell capabilities.now) feed.new }
 {
-    add_numbers(feed, capabilities.versions.as_slice());
-    add_numbers(feed, capabilities.cipher_suites.as_slice());
-    add_numbers(feed, capabilities.extensions.as_slice());
-    add_numbers(feed, capabilities.proposals.as_slice());
-    add_numbers(feed, capabilities.credentials.as_slice());
+    feed.add(capabilities.bytes());
 }
 
 #[tactic(auto, using(crate::proofs::Feeding::feeding), unfolding(mls_leaf::specs::Leaf::leaf_source))]

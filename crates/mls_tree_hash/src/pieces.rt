@@ -76,16 +76,6 @@ pub(crate) fn add_u64(feed: &mut Feed, n: u64)
     feed.add(&n.to_be_bytes());
 }
 
-/// A vector of numbers of two bytes.
-pub(crate) fn add_numbers(feed: &mut Feed, numbers: &[u16])
-    ensures { Feeds feed.old (opaque (flat_map (uint w16) numbers.now)) feed.new }
-{
-    add_header(feed, 2 * numbers.len());
-    for n in numbers {
-        add_u16(feed, *n);
-    }
-}
-
 /// A vector of numbers of four bytes.
 pub(crate) fn add_entries(feed: &mut Feed, entries: &[u32])
     ensures { Feeds feed.old (opaque (flat_map (uint w32) entries.now)) feed.new }

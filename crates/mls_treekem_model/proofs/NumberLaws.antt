@@ -14,7 +14,7 @@ use Rattle.mls_treekem_model.specs.Make.{secret_above}
 use Rattle.mls_treekem_model.specs.Seal.{targets, seal_count, seal_to, seal_all, with_ciphertexts, path_past, seal_along}
 use Rattle.mls_treekem_model.proofs.SealLaws.{cons_is, with_is, sealed_all}
 use Rattle.mls_treekem_model.specs.Seeds.{seal_count_of}
-use Rattle.mls_treekem_model.specs.Whole.{ciphertexts_in, IsSealedUnder, SealedByNumber, SealsAreCounted}
+use Rattle.mls_treekem_model.specs.Whole.{ciphertexts_of, IsSealedUnder, SealedByNumber, SealsAreCounted}
 use Rattle.mls_treekem_model.proofs.WholeLaws.{all_sealed, sealed_is}
 
 get_past : {A : Type 0} (xs ys : List A) (k : ℕ) (x : A) → slice_get (xs ++ ys) k ≡ Some x → (slice_get xs k ≡ Some x) ⊎ ((j : ℕ) × (k ≡ length xs + j) × (slice_get ys j ≡ Some x))
@@ -58,19 +58,19 @@ numbered_all c context secret b t rnd i (d ∷ ds) xs h (suc k) x g =
 -- ---- of a path, the lowest node first
 
 record IsNumbered (c : Crypto) (context added : List ℕ) (rnd : ℕ → List ℕ) (ss : List Step) (ns : List UpdatePathNode) : Type 0 where
-  count : length (ciphertexts_in (reverse ns)) ≡ seal_count added ss
-  numbers : (k : ℕ) (x : HpkeCiphertext) → slice_get (ciphertexts_in (reverse ns)) k ≡ Some x → IsSealedUnder c context rnd k x
+  count : length (ciphertexts_of (reverse ns)) ≡ seal_count added ss
+  numbers : (k : ℕ) (x : HpkeCiphertext) → slice_get (ciphertexts_of (reverse ns)) k ≡ Some x → IsSealedUnder c context rnd k x
 
-turned : (n : UpdatePathNode) (ns : List UpdatePathNode) → ciphertexts_in (reverse (n ∷ ns)) ≡ ciphertexts_in (reverse ns) ++ n.ciphertexts
+turned : (n : UpdatePathNode) (ns : List UpdatePathNode) → ciphertexts_of (reverse (n ∷ ns)) ≡ ciphertexts_of (reverse ns) ++ n.ciphertexts
 turned n ns =
-    ap (λ (zs : List UpdatePathNode). ciphertexts_in zs) (reverse-cons n ns)
+    ap (λ (zs : List UpdatePathNode). ciphertexts_of zs) (reverse-cons n ns)
     ∙ flat_map-append (λ (m : UpdatePathNode). m.ciphertexts) (reverse ns) (n ∷ [])
-    ∙ ap (λ (xs : List HpkeCiphertext). ciphertexts_in (reverse ns) ++ xs) (nil_right n.ciphertexts)
+    ∙ ap (λ (xs : List HpkeCiphertext). ciphertexts_of (reverse ns) ++ xs) (nil_right n.ciphertexts)
 
 numbers_of : (c : Crypto) (context added : List ℕ) (rnd : ℕ → List ℕ) (ss : List Step) (ms : List UpdatePathNode) (xs : List HpkeCiphertext) → IsNumbered c context added rnd ss ms →
     ((j : ℕ) (x : HpkeCiphertext) → slice_get xs j ≡ Some x → IsSealedUnder c context rnd (seal_count added ss + j) x) →
-    (k : ℕ) (x : HpkeCiphertext) → slice_get (ciphertexts_in (reverse ms) ++ xs) k ≡ Some x → IsSealedUnder c context rnd k x
-numbers_of c context added rnd ss ms xs r seals k x g = elim (get_past (ciphertexts_in (reverse ms)) xs k x g) [
+    (k : ℕ) (x : HpkeCiphertext) → slice_get (ciphertexts_of (reverse ms) ++ xs) k ≡ Some x → IsSealedUnder c context rnd k x
+numbers_of c context added rnd ss ms xs r seals k x g = elim (get_past (ciphertexts_of (reverse ms)) xs k x g) [
   | inl e ↦ r.numbers k x e
   | inr e ↦
       let n : seal_count added ss + e.0 ≡ k = sym (e.1 ∙ ap (λ (m : ℕ). m + e.0) r.count) in
@@ -83,7 +83,7 @@ numbered_along c context added rnd start [] [] h = record { count = refl; number
 numbered_along c context added rnd start [] (n ∷ ns) h = absurd cc
 numbered_along c context added rnd start (s ∷ ss) ns h = by_test (is_filtered s) refl h (numbered_along c context added rnd start ss)
   where
-    with_count : (u : Bool) → is_filtered s ≡ u → (ms : List UpdatePathNode) → length (ciphertexts_in (reverse ms)) ≡ (if u then length (targets added s) else 0) + seal_count added ss → length (ciphertexts_in (reverse ms)) ≡ seal_count added (s ∷ ss)
+    with_count : (u : Bool) → is_filtered s ≡ u → (ms : List UpdatePathNode) → length (ciphertexts_of (reverse ms)) ≡ (if u then length (targets added s) else 0) + seal_count added ss → length (ciphertexts_of (reverse ms)) ≡ seal_count added (s ∷ ss)
     with_count u e ms q = q ∙ ap (λ (v : Bool). (if v then length (targets added s) else 0) + seal_count added ss) (sym e)
 
     by_test : (u : Bool) → is_filtered s ≡ u →
@@ -97,8 +97,8 @@ numbered_along c context added rnd start (s ∷ ss) ns h = by_test (is_filtered 
         let whole : made ∷ e.1 ≡ ns = sym (e.4 ∙ ap (λ (n : UpdatePathNode). n ∷ e.1) w.2) in
         let r = rec e.1 e.3 in
         let here : length w.0 ≡ length (targets added s) = all_sealed c context (secret_above ss start) s.first s.other (targets added s) w.0 (sealed_all c context (secret_above ss start) s.first s.other rnd (seal_count added ss) (targets added s) w.0 w.1) in
-        let size : length (ciphertexts_in (reverse (made ∷ e.1))) ≡ length (ciphertexts_in (reverse e.1)) + length w.0 = ap (λ (xs : List HpkeCiphertext). length xs) (turned made e.1) ∙ length-append (ciphertexts_in (reverse e.1)) w.0 in
-        let all : length (ciphertexts_in (reverse (made ∷ e.1))) ≡ length (targets added s) + seal_count added ss = omega (arith, here, size, r.count) in
+        let size : length (ciphertexts_of (reverse (made ∷ e.1))) ≡ length (ciphertexts_of (reverse e.1)) + length w.0 = ap (λ (xs : List HpkeCiphertext). length xs) (turned made e.1) ∙ length-append (ciphertexts_of (reverse e.1)) w.0 in
+        let all : length (ciphertexts_of (reverse (made ∷ e.1))) ≡ length (targets added s) + seal_count added ss = omega (arith, here, size, r.count) in
         subst (λ (ms : List UpdatePathNode). IsNumbered c context added rnd (s ∷ ss) ms) whole
         (record {
           count = with_count true q (made ∷ e.1) all;
@@ -107,16 +107,16 @@ numbered_along c context added rnd start (s ∷ ss) ns h = by_test (is_filtered 
         })
     by_test false q h rec =
         let r = rec ns h in
-        let all : length (ciphertexts_in (reverse ns)) ≡ 0 + seal_count added ss = omega (arith, r.count) in
+        let all : length (ciphertexts_of (reverse ns)) ≡ 0 + seal_count added ss = omega (arith, r.count) in
         record { count = with_count false q ns all; numbers = r.numbers }
 
 pub sealed_by_number : SealedByNumber
 sealed_by_number c context added rnd t i start path h k x g =
     let s = sealed_is c context added rnd t i start path h in
     let r = numbered_along c context added rnd start (way 0 t i) s.nodes s.sealed in
-    r.numbers k x (subst (λ (ns : List UpdatePathNode). slice_get (ciphertexts_in ns) k ≡ Some x) s.turned g)
+    r.numbers k x (subst (λ (ns : List UpdatePathNode). slice_get (ciphertexts_of ns) k ≡ Some x) s.turned g)
 
 pub seals_are_counted : SealsAreCounted
 unfolding seal_count_of
 seals_are_counted [] = refl
-seals_are_counted (n ∷ ns) = length-append n.ciphertexts (ciphertexts_in ns) ∙ ap (λ (m : ℕ). length n.ciphertexts + m) (seals_are_counted ns)
+seals_are_counted (n ∷ ns) = length-append n.ciphertexts (ciphertexts_of ns) ∙ ap (λ (m : ℕ). length n.ciphertexts + m) (seals_are_counted ns)

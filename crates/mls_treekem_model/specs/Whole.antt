@@ -129,8 +129,8 @@ SecretAtAncestor = (h : ℕ) (t : Term) (i j : ℕ) (start : List ℕ) → is_pe
 -- ---- the numbers of seals
 
 -- the ciphertexts of a path, node by node
-abbrev pub ciphertexts_in : List UpdatePathNode → List HpkeCiphertext
-ciphertexts_in path = flat_map (λ (n : UpdatePathNode). n.ciphertexts) path
+abbrev pub ciphertexts_of : List UpdatePathNode → List HpkeCiphertext
+ciphertexts_of path = flat_map (λ (n : UpdatePathNode). n.ciphertexts) path
 
 -- a ciphertext is some path secret sealed to some key, with the randomness of this number
 pub record IsSealedUnder (c : Crypto) (context : List ℕ) (rnd : ℕ → List ℕ) (number : ℕ) (x : HpkeCiphertext) : Type 0 where
@@ -141,11 +141,11 @@ pub record IsSealedUnder (c : Crypto) (context : List ℕ) (rnd : ℕ → List �
 -- the number of a seal of a path is its place among all ciphertexts, the lowest node's first, so that no two have one
 abbrev pub SealedByNumber : Type 0
 SealedByNumber = (c : Crypto) (context : List ℕ) (added : List ℕ) (rnd : ℕ → List ℕ) (t : Term) (i : ℕ) (start : List ℕ) (path : List UpdatePathNode) → sealed_path c context added rnd t i start ≡ Ok path →
-    (k : ℕ) (x : HpkeCiphertext) → slice_get (ciphertexts_in path) k ≡ Some x → IsSealedUnder c context rnd k x
+    (k : ℕ) (x : HpkeCiphertext) → slice_get (ciphertexts_of path) k ≡ Some x → IsSealedUnder c context rnd k x
 
 -- a path has as many ciphertexts as are counted for the number of the first seal behind it
 abbrev pub SealsAreCounted : Type 0
-SealsAreCounted = (path : List UpdatePathNode) → length (ciphertexts_in path) ≡ seal_count_of path
+SealsAreCounted = (path : List UpdatePathNode) → length (ciphertexts_of path) ≡ seal_count_of path
 
 -- ---- any path, whoever made it
 

@@ -7,7 +7,7 @@ use Rattle.std.specs.Slice.{IsItemAt}
 use Rattle.std.specs.Prelude.{MatchResult}
 use Rattle.std.specs.Result.{result_ok}
 use Rattle.std.proofs.lemmas.Option.{slice_get_past, slice_get-get_or}
-use Rattle.mls_wire.specs.Reading.{◌>>=◌, rest_of, length_at, opaque, opaque_at}
+use Rattle.mls_wire.specs.Reading.{length_at, opaque, opaque_at}
 use Rattle.mls_wire.specs.Combine.{vector}
 use Rattle.mls_wire.specs.Faults.{RefusesContent}
 use Rattle.mls_wire.specs.declared.WireError.{WireError}

@@ -4,7 +4,7 @@ use Rattle.std.specs.Int.{w16}
 use Rattle.std.proofs.Common.{lit<}
 use Rattle.mls_wire.specs.Reading.{◌>>=◌, uint_at, opaque_at}
 use Rattle.mls_wire.specs.Format.{Format}
-use Rattle.mls_wire.specs.ReadFaults.{is_fault, Answered, HasFaults, answered_then, answered_if, uint_answered, opaque_answered, ended_answered, mark_faults, empty_faults, pair_faults, behind_faults, behind_answered, seen_answered, vector_faults, optional_faults, byte_string_faults, nothing_faults, uint16_faults, uint32_faults, uint64_faults}
+use Rattle.mls_wire.specs.ReadFaults.{is_fault, Answered, HasFaults, answered_then, answered_if, uint_answered, opaque_answered, ended_answered, mark_faults, pair_faults, behind_answered, seen_answered, vector_faults, optional_faults, byte_string_faults, uint16_faults, uint32_faults, uint64_faults}
 use Rattle.mls_leaf.specs.GroupExtensions.{group_extensions_faults}
 use Rattle.mls_leaf.specs.Node.{node}
 use Rattle.mls_leaf.specs.Nonempty.{optional_nonempty}

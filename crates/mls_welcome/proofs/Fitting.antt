@@ -11,14 +11,13 @@ use Rattle.mls_wire.specs.Stateful.{vector_from}
 use Rattle.mls_wire.specs.CombineReads.{IsNonempty}
 use Rattle.mls_wire.specs.StatefulReads.{run_spelling}
 use Rattle.mls_leaf.specs.Nonempty.{optional_nonempty}
-use Rattle.mls_leaf.specs.Leaf.{credential, uint16s, capabilities, leaf_source, leaf_node}
+use Rattle.mls_leaf.specs.Leaf.{credential, capabilities, leaf_source, leaf_node}
 use Rattle.mls_leaf.specs.Parent.{Parent, rises}
 use Rattle.mls_leaf.specs.ParentNode.{rising_rule, parent_node}
 use Rattle.mls_leaf.specs.GroupExtensions.{are_allowed, group_extensions}
 use Rattle.mls_leaf.proofs.GroupExtensionsLaws.{group_extensions-fits}
 use Rattle.mls_leaf.proofs.ParentLaws.{RunFits-rising}
 use Rattle.mls_leaf.specs.Node.{node}
-use Rattle.mls_leaf.specs.declared.leaf.Capabilities.{Capabilities}
 use Rattle.mls_leaf.specs.declared.leaf.Credential.{Credential}
 use Rattle.mls_leaf.specs.declared.leaf.LeafNode.{LeafNode}
 use Rattle.mls_leaf.specs.declared.leaf.LeafSource.TheVariants as leaf_node_source
@@ -53,7 +52,7 @@ short_text text n lt = short_last (header (length text)) text n lt
 
 -- ---- lists
 
-pub all_below : (n : ℕ) (xs : List ℕ) → ((i : ℕ) → slice_index xs i < n) → AllByRecursion (λ (x : ℕ). x < n) xs
+all_below : (n : ℕ) (xs : List ℕ) → ((i : ℕ) → slice_index xs i < n) → AllByRecursion (λ (x : ℕ). x < n) xs
 all_below n [] h = tt
 all_below n (x ∷ xs) h = (h 0, all_below n xs (λ i. h (suc i)))
 
@@ -86,20 +85,6 @@ enclosed_fit : {V : Type 0} (w : Whole V) (x : V) → (length (w.spell x) < 2 ^ 
 enclosed_fit w x h lt = let text : length (w.spell x) < 2 ^ 30 = short_text (w.spell x) _ lt in (h text, text)
 
 -- ---- leaves
-
-uint16s_fit : (xs : List ℕ) → ((i : ℕ) → slice_index xs i < 2 ^ 16) → length (uint16s.spell xs) < 2 ^ 30 → uint16s.Fits xs
-uint16s_fit xs h lt = (all_below (2 ^ 16) xs h, short_text _ _ lt)
-
-pub capabilities_fit : (v : Capabilities) → ((i : ℕ) → slice_index v.versions i < 2 ^ 16) → ((i : ℕ) → slice_index v.cipher_suites i < 2 ^ 16) → ((i : ℕ) → slice_index v.extensions i < 2 ^ 16) → ((i : ℕ) → slice_index v.proposals i < 2 ^ 16) → ((i : ℕ) → slice_index v.credentials i < 2 ^ 16) → FitsIfShort capabilities v
-unfolding capabilities
-capabilities_fit v a b d e f =
-    let t4 = uint16s ⨾ uint16s in
-    let t3 = uint16s ⨾ t4 in
-    let t2 = uint16s ⨾ t3 in
-    pair_fit uint16s t2 v.versions (v.cipher_suites, (v.extensions, (v.proposals, v.credentials))) (uint16s_fit v.versions a)
-    (pair_fit uint16s t3 v.cipher_suites (v.extensions, (v.proposals, v.credentials)) (uint16s_fit v.cipher_suites b)
-    (pair_fit uint16s t4 v.extensions (v.proposals, v.credentials) (uint16s_fit v.extensions d)
-    (pair_fit uint16s uint16s v.proposals v.credentials (uint16s_fit v.proposals e) (uint16s_fit v.credentials f))))
 
 pub package_source_fits : (first last : ℕ) → first < 2 ^ 64 → last < 2 ^ 64 → FitsIfShort leaf_source (leaf_node_source.KeyPackage first last)
 unfolding leaf_source

@@ -10,27 +10,18 @@ ghost use Rattle.mls_leaf.specs.ParentNode.{parent_node};
 ghost use Rattle.mls_tree_slot.specs.Nodes.{lent_node};
 ghost use Rattle.mls_public_group.specs.MessageLimit.{FitsIfShort};
 
-use mls_leaf::{Capabilities, LeafNode, LeafSource, ParentNode};
+use mls_leaf::{LeafNode, LeafSource, ParentNode, SpelledCapabilities};
 use mls_tree_slot::{NodeRef, Slot};
-
-/// Numbers of 16 bits.
-fn know_shorts(numbers: &[u16])
-    ensures { (i : ℕ) → slice_index numbers.now i < 2 ^ 16 }
-{}
 
 /// Numbers of 32 bits.
 fn know_indices(numbers: &[u32])
     ensures { (i : ℕ) → slice_index numbers.now i < 2 ^ 32 }
 {}
 
-fn know_capabilities(able: &Capabilities)
+fn know_capabilities(able: &SpelledCapabilities)
     ensures { FitsIfShort capabilities able.now }
 {
-    know_shorts(able.versions.as_slice());
-    know_shorts(able.cipher_suites.as_slice());
-    know_shorts(able.extensions.as_slice());
-    know_shorts(able.proposals.as_slice());
-    know_shorts(able.credentials.as_slice());
+    let _spelled = able.bytes();
 }
 
 fn know_source(source: &LeafSource)

@@ -4,7 +4,8 @@
 ghost use Rattle.std.specs.Prelude.{◌≡◌, nat_eq, true};
 ghost use Rattle.mls_tree_model.specs.Sets.{is_distinct};
 
-use mls_leaf::{Bytes, Capabilities, Credential, Items, LeafNode, LeafSource, Node, ParentNode};
+use crate::capabilities::no_capabilities;
+use mls_leaf::{Bytes, Credential, Items, LeafNode, LeafSource, Node, ParentNode};
 use mls_tree_cells::{Cells, Change};
 use mls_tree_index::{Index, KeyKind};
 use mls_tree_slot::Slot;
@@ -12,10 +13,6 @@ use std::alloc::{AllocError, Global};
 
 fn byte(alloc: Global, b: u8) -> Result<Bytes, AllocError> {
     Ok(Bytes::from_slice(alloc, &[b])?)
-}
-
-fn numbers(alloc: Global) -> Items<u16> {
-    Items::from_vec(Vec::new(alloc))
 }
 
 /// A leaf with these bytes as its keys.
@@ -26,13 +23,7 @@ pub(crate) fn leaf(alloc: Global, key: u8, signature_key: u8) -> Result<Slot, Al
         credential: Credential {
             identity: byte(alloc, key)?,
         },
-        capabilities: Capabilities {
-            versions: numbers(alloc),
-            cipher_suites: numbers(alloc),
-            extensions: numbers(alloc),
-            proposals: numbers(alloc),
-            credentials: numbers(alloc),
-        },
+        capabilities: no_capabilities(alloc)?,
         source: LeafSource::Update,
         signature: byte(alloc, key)?,
     };

@@ -1,7 +1,8 @@
 //! Members and small trees, for the rows of tests. They promise nothing: what a test expects is run, and a proof that
 //! carried the clauses of each call would take minutes.
 
-use mls_leaf::{Bytes, Capabilities, Credential, Items, LeafNode, LeafSource, Node, ParentNode};
+use crate::capabilities::no_capabilities;
+use mls_leaf::{Bytes, Credential, Items, LeafNode, LeafSource, Node, ParentNode};
 use mls_tree::{PublicTree, TreeError};
 use mls_tree_slot::Slot;
 use std::alloc::{AllocError, Global};
@@ -12,10 +13,6 @@ fn bytes(alloc: Global, list: &[u8]) -> Result<Bytes, AllocError> {
 
 fn byte(alloc: Global, b: u8) -> Result<Bytes, AllocError> {
     bytes(alloc, &[b])
-}
-
-fn numbers(alloc: Global) -> Items<u16> {
-    Items::from_vec(Vec::new(alloc))
 }
 
 /// The parts of a leaf that are byte strings, all of the same bytes.
@@ -37,23 +34,18 @@ fn parts(alloc: Global, key: &[u8]) -> Result<LeafParts, AllocError> {
 }
 
 /// The leaf of these parts.
-fn leaf_of(alloc: Global, parts: LeafParts, source: LeafSource) -> LeafNode {
-    LeafNode {
+fn leaf_of(alloc: Global, parts: LeafParts, source: LeafSource) -> Result<LeafNode, AllocError> {
+    let capabilities = no_capabilities(alloc)?;
+    Ok(LeafNode {
         encryption_key: parts.encryption_key,
         signature_key: parts.signature_key,
         credential: Credential {
             identity: parts.identity,
         },
-        capabilities: Capabilities {
-            versions: numbers(alloc),
-            cipher_suites: numbers(alloc),
-            extensions: numbers(alloc),
-            proposals: numbers(alloc),
-            credentials: numbers(alloc),
-        },
+        capabilities,
         source,
         signature: parts.signature,
-    }
+    })
 }
 
 /// A leaf with this byte as its encryption key, of a commit with this parent hash.
@@ -64,13 +56,13 @@ pub(crate) fn leaf_of_commit(
 ) -> Result<LeafNode, AllocError> {
     let parent_hash = Bytes::from_vec(hash);
     let parts = parts(alloc, &[key])?;
-    Ok(leaf_of(alloc, parts, LeafSource::Commit { parent_hash }))
+    leaf_of(alloc, parts, LeafSource::Commit { parent_hash })
 }
 
 /// A leaf with this byte as its encryption key, which no commit made.
 pub(crate) fn member(alloc: Global, key: u8) -> Result<LeafNode, AllocError> {
     let parts = parts(alloc, &[key])?;
-    Ok(leaf_of(alloc, parts, LeafSource::Update))
+    leaf_of(alloc, parts, LeafSource::Update)
 }
 
 /// A tree in a box, so that the proof of a test, which drops it at each call that may fail, goes into none of its
@@ -147,7 +139,10 @@ fn slot_of_large_tree(alloc: Global, i: u16) -> Result<Slot, AllocError> {
         return Ok(Slot::blank());
     }
     let parts = parts(alloc, &i.to_be_bytes())?;
-    Slot::of(alloc, Node::Leaf(leaf_of(alloc, parts, LeafSource::Update)))
+    Slot::of(
+        alloc,
+        Node::Leaf(leaf_of(alloc, parts, LeafSource::Update)?),
+    )
 }
 
 fn nodes_of_large_tree(alloc: Global) -> Result<Vec<Slot>, AllocError> {

@@ -1,4 +1,4 @@
-use Rattle.std.proofs.Common.{refl, ℕ, List, Ok}
+use Rattle.std.proofs.Common.{refl, List, Ok}
 use Rattle.std.proofs.lemmas.Result.{err_from_is_err_and}
 use Rattle.mls_leaf.proofs.Codecs.{Fails-then}
 use Rattle.mls_leaf.proofs.TypeMarksLaws.{fails_now}
