@@ -1,5 +1,4 @@
-use Rattle.std.proofs.Common.{◌≡◌, ℕ, Bool, List, Result, Ok, ap, sym, subst, ◌∙◌}
-use Rattle.mls_leaf.specs.Capabilities.{are_listed}
+use Rattle.std.proofs.Common.{ℕ, List, refl, sym, subst}
 use Rattle.mls_leaf.specs.Faults.{Spells}
 use Rattle.mls_leaf.specs.Leaf.{capabilities}
 use Rattle.mls_leaf.specs.declared.leaf.Capabilities.{Capabilities}
@@ -8,4 +7,4 @@ use Rattle.mls_leaf.proofs.capabilities.SpelledCapabilities.support.Goals as goa
 pub returns : goal.returns
 returns c =
     let spells = subst (λ (l : List ℕ). Spells capabilities c.args.self.now l) (sym c.as_slice.ensures) (subst (λ (v : Capabilities). Spells capabilities v c.self.inside.bytes) c.self.view_is c.self.invariant) in
-    rw c.are_listed.ensures c.args.self.now spells at c.unwrap_or.ensures
+    rw (c.unwrap_or.ensures, c.are_listed.ensures c.args.self.now spells) refl

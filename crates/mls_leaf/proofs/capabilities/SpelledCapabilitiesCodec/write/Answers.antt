@@ -1,5 +1,4 @@
 use Rattle.std.proofs.Common.{◌∙◌, ap, ◌++◌, List, ℕ}
-use Rattle.mls_leaf.specs.Leaf.{capabilities}
 use Rattle.mls_leaf.proofs.CapabilityLaws.{spelling_fits, spelling_is}
 use Rattle.mls_leaf.proofs.capabilities.SpelledCapabilitiesCodec.write.Goals as goal
 
