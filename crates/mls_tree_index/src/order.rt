@@ -46,6 +46,7 @@ fn is_key_before(kind: KeyKind, cells: &Cells, own: Entry, key: &[u8], entry: En
 }
 
 /// Whether an entry comes before that of a key. Its key is read only where the fronts are the same.
+#[inline(always)]
 #[tactic(auto, using(crate::proofs::KeyFronts::lower_other, crate::proofs::KeyFronts::lower_same))]
 pub(crate) fn is_before(kind: KeyKind, cells: &Cells, own: Entry, key: &[u8], entry: Entry) -> bool
     ensures { result ≡ is_lower kind cells.now.nodes key.now entry own }

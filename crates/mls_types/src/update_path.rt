@@ -64,6 +64,7 @@ impl Codec for HpkeCiphertext {
         })
     }
 
+    #[inline(always)]
     #[tactic(auto, using(mls_leaf::proofs::Codecs::codecs), unfolding(crate::specs::UpdatePath::hpke_ciphertext))]
     fn check(reader: &mut Reader<'_>) -> Result<(), LeafError> {
         Bytes::check(reader)?;
