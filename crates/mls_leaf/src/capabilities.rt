@@ -1,6 +1,8 @@
 //! Capabilities as they are spelled.
 
 ghost use Rattle.std.specs.Prelude.{◌≡◌, ℕ, List, IfOk, Ok};
+ghost use Rattle.std.specs.Cmp.{and_equiv, on_equiv, partial_equiv_from_equiv};
+ghost use Rattle.std.specs.Cmp.Lexicographic.{nat_list_eq_equiv};
 ghost use Rattle.mls_leaf.specs.declared.leaf.Capabilities.{Capabilities};
 ghost use Rattle.mls_leaf.specs.Faults.{Spells};
 ghost use Rattle.mls_leaf.specs.Leaf.{capabilities, capabilities_nonempty};
@@ -129,7 +131,12 @@ impl Clone for SpelledCapabilities {
 impl PartialEq for SpelledCapabilities {
     ghost eq = { ⟦<Capabilities as PartialEq>⟧.eq };
 
-    ghost laws = { ⟦<Capabilities as PartialEq>⟧.laws };
+    ghost laws = { partial_equiv_from_equiv
+        (and_equiv (on_equiv (λ (v : Capabilities). v.versions) nat_list_eq_equiv)
+        (and_equiv (on_equiv (λ (v : Capabilities). v.cipher_suites) nat_list_eq_equiv)
+        (and_equiv (on_equiv (λ (v : Capabilities). v.extensions) nat_list_eq_equiv)
+        (and_equiv (on_equiv (λ (v : Capabilities). v.proposals) nat_list_eq_equiv)
+        (on_equiv (λ (v : Capabilities). v.credentials) nat_list_eq_equiv))))) };
 
     fn eq(&self, other: &SpelledCapabilities) -> bool {
         self.bytes == other.bytes
@@ -137,7 +144,11 @@ impl PartialEq for SpelledCapabilities {
 }
 
 impl Eq for SpelledCapabilities {
-    ghost laws = { ⟦<Capabilities as Eq>⟧.laws };
+    ghost laws = { and_equiv (on_equiv (λ (v : Capabilities). v.versions) nat_list_eq_equiv)
+        (and_equiv (on_equiv (λ (v : Capabilities). v.cipher_suites) nat_list_eq_equiv)
+        (and_equiv (on_equiv (λ (v : Capabilities). v.extensions) nat_list_eq_equiv)
+        (and_equiv (on_equiv (λ (v : Capabilities). v.proposals) nat_list_eq_equiv)
+        (on_equiv (λ (v : Capabilities). v.credentials) nat_list_eq_equiv)))) };
 }
 
 impl Codec for SpelledCapabilities {

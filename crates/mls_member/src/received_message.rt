@@ -1,5 +1,9 @@
 //! Bytes that are not the member's own pending commit.
 
+ghost use Rattle.mls_leaf.specs.Limits.{input_limit};
+ghost use Rattle.mls_types.specs.Message.{mls_message};
+ghost use Rattle.mls_view.specs.Shown.{Shows};
+ghost use Rattle.mls_view.specs.Views.{LendsWhole};
 ghost use Rattle.mls_tree.specs.Refusals.{RefusesOutright};
 ghost use Rattle.mls_member.specs.Faults.{number_of};
 ghost use Rattle.mls_member.specs.Process.{message_outer_checks, IsShortView};
@@ -7,22 +11,29 @@ ghost use Rattle.mls_member.specs.Received.{RefusesSender, TakesBytes, TakesMess
 
 use crate::error::Refusal;
 use crate::member::Member;
+use mls_leaf::LeafError;
 use mls_model::Effect;
 use mls_suite::Suite;
 use mls_view::{ContentView, MessageView, PublicMessageView};
 
 impl<S: Suite> Member<S> {
-    /// What bytes do: decoding, `NotPublicMessage` (41) no PublicMessage, the checks of every message, and then by
+    /// What bytes that were read do: decoding, `NotPublicMessage` (41) no PublicMessage, the checks of every message, and then by
     /// content (RFC 9420, 6).
-    pub(crate) fn bytes_verdict(&mut self, bytes: &[u8]) -> Result<Effect, Refusal>
+    pub(crate) fn bytes_verdict(
+        &mut self,
+        message: &Result<MessageView<'_>, LeafError>,
+        bytes: &[u8],
+    ) -> Result<Effect, Refusal>
+        requires { LendsWhole mls_message input_limit Shows bytes.now message.now }
         ensures verdict { TakesBytes S.crypto bytes.now self.old self.new result }
         // Decoding, and `NotPublicMessage` (41) to `BadMembershipTag` (46), come also when an allocation fails.
         ensures outright { RefusesOutright number_of (message_outer_checks self.old bytes.now)
             result }
     {
-        match MessageView::read(bytes)? {
-            MessageView::PublicMessage(view) => self.message_verdict(&view, bytes),
-            _ => Err(Refusal::NotPublicMessage),
+        match message {
+            Ok(MessageView::PublicMessage(view)) => self.message_verdict(view, bytes),
+            Ok(_) => Err(Refusal::NotPublicMessage),
+            Err(error) => Err(Refusal::Leaf(*error)),
         }
     }
 

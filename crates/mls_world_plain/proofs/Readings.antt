@@ -8,7 +8,8 @@ use Rattle.std.specs.Int.{w16}
 use Rattle.mls_wire.specs.Reading.{uint}
 use Rattle.mls_wire.specs.Format.{IsBytes}
 use Rattle.mls_wire.specs.Whole.{whole}
-use Rattle.mls_leaf.specs.Faults.{Spells}
+use Rattle.mls_leaf.specs.Faults.{Spells, number_of}
+use Rattle.mls_leaf.specs.declared.error.LeafError.{LeafError}
 use Rattle.mls_leaf.specs.Limits.{input_limit}
 use Rattle.mls_leaf.proofs.WholeLaws.{whole_takes, spells_same}
 use Rattle.mls_leaf.specs.KeyPackage.{key_package}
@@ -34,7 +35,7 @@ use Rattle.mls_view.specs.declared.message.MessageView.{MessageView}
 use Rattle.mls_view.specs.declared.message.MessageView.TheVariants as views
 use Rattle.mls_view.specs.declared.public_message.PublicMessageView.{PublicMessageView}
 use Rattle.mls_view.specs.Shown.{Shows, ShowsPublic, ShowsContent}
-use Rattle.mls_view.specs.Views.{LendsAll}
+use Rattle.mls_view.specs.Views.{LendsAll, LendsWhole}
 use Rattle.mls_public_group.specs.Short.{IsBelow}
 use Rattle.mls_public_group.specs.ShortProposal.{IsShortProposal}
 use Rattle.mls_public_group.proofs.ShortProposal.{short_parts}
@@ -227,6 +228,15 @@ no_list_read bytes n e = rw e refl
 
 pub no_names_read : (kept : List KeptProposal) (bytes : List ℕ) (n : ℕ) → whole mls_message input_limit bytes ≡ Err n → [] ≡ names_in kept (list_in bytes)
 no_names_read kept bytes n e = no_names kept (list_in bytes) (no_list_read bytes n e)
+
+-- bytes that were read, and are no message
+pub no_names_lent : (kept : List KeptProposal) (bytes : List ℕ) (r : Result MessageView LeafError) → ((v : MessageView) → r ≡ Ok v → ⊥) → LendsWhole mls_message input_limit Shows bytes r → [] ≡ names_in kept (list_in bytes)
+no_names_lent kept bytes (Ok v) none lends = absurd (none v refl)
+no_names_lent kept bytes (Err e) none lends = no_names_read kept bytes (number_of e) lends
+
+-- bytes that were read, and are this one
+pub lent_all : (bytes : List ℕ) (r : Result MessageView LeafError) (v : MessageView) → r ≡ Ok v → LendsWhole mls_message input_limit Shows bytes r → LendsAll mls_message input_limit Shows bytes v
+lent_all bytes r v e lends = subst (λ (x : Result MessageView LeafError). LendsWhole mls_message input_limit Shows bytes x) e lends
 
 -- ---- the message of a KeyPackage
 

@@ -1,7 +1,11 @@
 //! Deliveries to members.
 
-ghost use Rattle.std.specs.Prelude.{◌≡◌, ◌≢◌, ◌<◌, ℕ, Err, length, IfOk};
+ghost use Rattle.std.specs.Prelude.{◌≡◌, ◌≢◌, ◌<◌, ℕ, List, Err, length, IfOk};
 ghost use Rattle.std.specs.Option.{option_copied};
+ghost use Rattle.mls_leaf.specs.Limits.{input_limit};
+ghost use Rattle.mls_types.specs.Message.{mls_message};
+ghost use Rattle.mls_view.specs.Shown.{Shows};
+ghost use Rattle.mls_view.specs.Views.{LendsWhole};
 ghost use Rattle.mls_member.specs.EarlyChecks.{early_checks as early_member_checks};
 ghost use Rattle.mls_model.specs.Verdict.{verdict};
 ghost use Rattle.mls_world_plain.specs.Faults.{number_of};
@@ -19,7 +23,7 @@ use crate::journal::Journals;
 use crate::seats::Seat;
 use crate::sources::bytes_of;
 use crate::world::PlainWorld;
-use mls_leaf::{Bytes, Items};
+use mls_leaf::{Bytes, Items, LeafError};
 use mls_member::Member;
 use mls_model::{Effect, Source};
 use mls_suite::Suite;
@@ -51,18 +55,19 @@ fn list_of_message<'v, 'a>(
     }
 }
 
-/// The messages of the kept proposals that the commit names which bytes are, none where they are no commit.
+/// The messages of the kept proposals that a commit names, none where bytes were read that are no commit.
 fn names_of<S: Suite>(
     alloc: Global,
     member: &Member<S>,
-    bytes: &[u8],
+    message: &Result<MessageView<'_>, LeafError>,
 ) -> Result<Vec<Bytes>, AllocError>
-    ensures { IfOk result (λ v. v.items ≡ names_in member.now.kept (list_in bytes.now)) }
+    ensures { (bytes : List ℕ) → LendsWhole mls_message input_limit Shows bytes message.now
+        → IfOk result (λ v. v.items ≡ names_in member.now.kept (list_in bytes)) }
 {
-    let Ok(message) = MessageView::read(bytes) else {
+    let Ok(message) = message else {
         return Ok(Vec::new(alloc));
     };
-    match list_of_message(&message) {
+    match list_of_message(message) {
         Some(list) => names_listed(alloc, member, list),
         None => Ok(Vec::new(alloc)),
     }
@@ -70,10 +75,16 @@ fn names_of<S: Suite>(
 
 /// The entry of a commit that a member would follow.
 #[tactic(auto, unfolding(mls_model::specs::Journal::entry_of))]
-fn entry_of<S: Suite>(alloc: Global, member: &Member<S>, bytes: &[u8]) -> Result<Entry, AllocError>
+fn entry_of<S: Suite>(
+    alloc: Global,
+    member: &Member<S>,
+    message: &Result<MessageView<'_>, LeafError>,
+    bytes: &[u8],
+) -> Result<Entry, AllocError>
+    requires { LendsWhole mls_message input_limit Shows bytes.now message.now }
     ensures { IfOk result (λ e. e ≡ entry_of member.now bytes.now) }
 {
-    let names = names_of(alloc, member, bytes)?;
+    let names = names_of(alloc, member, message)?;
     let commit = Bytes::from_vec(Vec::from_slice(alloc, bytes)?);
     Ok(Entry { commit, names })
 }
@@ -122,14 +133,15 @@ fn hand_bytes<S: Suite>(
     // What the member refuses before anything grows comes also when an allocation fails.
     ensures outright { RefusesEarly (early_member_checks seat.old.member bytes.now) result }
 {
-    let entry = match entry_of(alloc, &seat.member, bytes) {
+    let message = MessageView::read(bytes);
+    let entry = match entry_of(alloc, &seat.member, &message, bytes) {
         Ok(entry) => entry,
         Err(error) => return Err(early_refusal(&seat.member, bytes, error)),
     };
     if let Err(error) = journals.reserve() {
         return Err(early_refusal(&seat.member, bytes, error));
     }
-    match seat.member.process(bytes) {
+    match seat.member.process_read(&message, bytes) {
         Ok(effect) => {
             if is_advanced(&effect) {
                 seat.journal = journals.follow(seat.journal, entry);

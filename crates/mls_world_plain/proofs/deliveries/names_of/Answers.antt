@@ -1,12 +1,17 @@
 use Rattle.std.proofs.Common.{◌∙◌}
-use Rattle.mls_world_plain.proofs.Readings.{names_of_list, no_names_shown, no_names_read}
+use Rattle.mls_world_plain.proofs.Readings.{names_of_list, no_names_shown, no_names_lent, lent_all}
 use Rattle.mls_world_plain.proofs.deliveries.names_of.Goals as goal
 
 pub returns-in_default : goal.returns-in_default
-returns-in_default g c = c.new.ensures.items ∙ no_names_read c.args.member.now.kept c.args.bytes.now _ c.in_default.ensures.read
+returns-in_default g c = λ bytes lends.
+    c.new.ensures.items ∙ no_names_lent c.args.member.now.kept bytes c.args.message.now c.in_default.not-Ok lends
 
 pub returns-in-Some : goal.returns-in-Some
-returns-in-Some g c = names_of_list (λ v. v.items) c.args.member.now.kept c.args.bytes.now _ _ c.names_listed.result c.in-Ok.ensures.read c.in-Some.ensures c.names_listed.ensures
+returns-in-Some g c = λ bytes lends.
+    names_of_list (λ v. v.items) c.args.member.now.kept bytes _ _ c.names_listed.result
+    (lent_all bytes c.args.message.now _ c.in-Ok.is lends) c.in-Some.ensures c.names_listed.ensures
 
 pub returns-in-None : goal.returns-in-None
-returns-in-None g c = c.new-in-None.ensures.items ∙ no_names_shown c.args.member.now.kept c.args.bytes.now _ c.in-Ok.ensures.read c.in-None.ensures
+returns-in-None g c = λ bytes lends.
+    c.new-in-None.ensures.items ∙ no_names_shown c.args.member.now.kept bytes _
+    (lent_all bytes c.args.message.now _ c.in-Ok.is lends) c.in-None.ensures
