@@ -237,7 +237,7 @@ fn speak_of_removal(
 }
 
 /// Adds what a member is saved as.
-fn add_saved(member: &Member<Glass>, said: &mut Vec<u8>) -> Result<(), Fail> {
+fn add_state(member: &Member<Glass>, said: &mut Vec<u8>) -> Result<(), Fail> {
     let bytes = member.save()?;
     said.extend_from_slice(&bytes)?;
     Ok(())
@@ -252,9 +252,9 @@ fn add_history(
 ) -> Result<(), Fail> {
     speak_of_update(alloc, keeping, group, said)?;
     speak_of_removal(alloc, keeping, group, said)?;
-    add_saved(&group.alice, said)?;
-    add_saved(&group.bob, said)?;
-    add_saved(&group.carol, said)
+    add_state(&group.alice, said)?;
+    add_state(&group.bob, said)?;
+    add_state(&group.carol, said)
 }
 
 /// What three members say, and then what each is saved as.

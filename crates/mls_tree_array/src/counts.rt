@@ -88,8 +88,10 @@ fn target_count(tree: &Subtree<'_>, added: &[u32]) -> usize
 fn push_count(side: &Subtree<'_>, added: &[u32], out: &mut Vec<usize>) -> Result<(), AllocError>
     ensures { OnOk result (AddsCount side.now added.now out.old out.new) }
 {
-    if is_reached(side) {
-        out.push(target_count(side, added))?;
+    let count = target_count(side, added);
+    // Where one is counted there is one: mostly so, and then the side isn't walked again.
+    if count > 0 || is_reached(side) {
+        out.push(count)?;
     }
     Ok(())
 }

@@ -138,7 +138,7 @@ fn is_ended(alloc: Global, words: &[&str], file: &str, text: &str) -> Result<boo
 }
 
 /// How many are so, from the first on.
-fn count_ended(alloc: Global, cases: &[(&[&str], &str, &str)]) -> Result<usize, AllocError> {
+fn count_endings(alloc: Global, cases: &[(&[&str], &str, &str)]) -> Result<usize, AllocError> {
     for i in 0..cases.len() {
         let (words, file, text) = cases[i];
         if !is_ended(alloc, words, file, text)? {
@@ -150,7 +150,7 @@ fn count_ended(alloc: Global, cases: &[(&[&str], &str, &str)]) -> Result<usize, 
 
 #[test]
 fn finds_nodes_and_leaves(rt: HostRuntime) -> Result<(), Fail> {
-    assert_eq!(rt; count_ended(rt.alloc(), NODES)?, NODES.len());
+    assert_eq!(rt; count_endings(rt.alloc(), NODES)?, NODES.len());
     Ok(())
 }
 

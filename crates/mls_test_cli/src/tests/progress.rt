@@ -1,6 +1,6 @@
 //! What is said of how far a replay is, by way of `serve`.
 
-use crate::tests::ends::count_lines;
+use crate::tests::ends::count_pages_in_lines;
 use crate::tests::faults::fails_at_line;
 use crate::tests::rows::{JOIN, JOIN_TEXT};
 use crate::tests::{Full, OUT_OF_MEMORY, request_of, unless_out_of_memory, with_room};
@@ -243,7 +243,7 @@ fn has_lines(alloc: Global, all: usize, lines: usize) -> Result<bool, AllocError
     let said = report_each(alloc, all, 8192)?;
     let text = said.held.as_slice();
     let last = format!(in alloc; "mls: {all} of {all} events\n")?;
-    Ok(text.ends_with(last.as_bytes()) && count_lines(text) == lines)
+    Ok(text.ends_with(last.as_bytes()) && count_pages_in_lines(text) == lines)
 }
 
 /// Of how many events how many lines are said.
@@ -257,7 +257,7 @@ const LINES: &[(usize, usize)] = &[
 ];
 
 /// How many are so, from the first on.
-fn count_lined(alloc: Global, cases: &[(usize, usize)]) -> Result<usize, AllocError> {
+fn count_pages_in_lines(alloc: Global, cases: &[(usize, usize)]) -> Result<usize, AllocError> {
     for i in 0..cases.len() {
         let (all, lines) = cases[i];
         if !has_lines(alloc, all, lines)? {
@@ -269,7 +269,7 @@ fn count_lined(alloc: Global, cases: &[(usize, usize)]) -> Result<usize, AllocEr
 
 #[test]
 fn says_at_hundredths(rt: HostRuntime) -> Result<(), Fail> {
-    assert_eq!(rt; count_lined(rt.alloc(), LINES)?, LINES.len());
+    assert_eq!(rt; count_pages_in_lines(rt.alloc(), LINES)?, LINES.len());
     Ok(())
 }
 

@@ -117,7 +117,7 @@ fn is_replayed(alloc: Global, events: &str, status: u8, text: &str) -> Result<bo
 }
 
 /// How many are so, from the first on.
-fn count_replayed(alloc: Global, cases: &[FileCase<'_>]) -> Result<usize, AllocError> {
+fn count_replays(alloc: Global, cases: &[FileCase<'_>]) -> Result<usize, AllocError> {
     for i in 0..cases.len() {
         let (events, status, text) = cases[i];
         if !is_replayed(alloc, events, status, text)? {
@@ -129,7 +129,7 @@ fn count_replayed(alloc: Global, cases: &[FileCase<'_>]) -> Result<usize, AllocE
 
 #[test]
 fn replays_events(rt: HostRuntime) -> Result<(), Fail> {
-    assert_eq!(rt; count_replayed(rt.alloc(), EVENTS)?, EVENTS.len());
+    assert_eq!(rt; count_replays(rt.alloc(), EVENTS)?, EVENTS.len());
     Ok(())
 }
 

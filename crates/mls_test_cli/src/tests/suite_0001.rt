@@ -175,7 +175,7 @@ const INFO_CHECKED: &[&str] = &["mls", "check", "FILE", "--group-info", "--signa
 const INFO_UNCHECKED: &[&str] = &["mls", "check", "FILE", "--group-info"];
 
 /// How many are so, from the first on.
-fn count_checked(alloc: Global, cases: &[FileCase<'_>]) -> Result<usize, AllocError> {
+fn count_checks(alloc: Global, cases: &[FileCase<'_>]) -> Result<usize, AllocError> {
     for i in 0..cases.len() {
         let (file, status, text) = cases[i];
         let whole = format!(in alloc; "{INFO_TREE_LINES}{text}")?;
@@ -194,7 +194,7 @@ fn count_checked(alloc: Global, cases: &[FileCase<'_>]) -> Result<usize, AllocEr
 
 #[test]
 fn checks_group_infos(rt: HostRuntime) -> Result<(), Fail> {
-    assert_eq!(rt; count_checked(rt.alloc(), INFOS)?, INFOS.len());
+    assert_eq!(rt; count_checks(rt.alloc(), INFOS)?, INFOS.len());
     Ok(())
 }
 

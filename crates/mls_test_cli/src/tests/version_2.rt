@@ -147,7 +147,7 @@ const DELIVERED: &[Expected] = &[
 ];
 
 /// How many are so, from the first on.
-fn count_delivered(alloc: Global, cases: &[Expected<'_>]) -> Result<usize, AllocError> {
+fn count_deliveries(alloc: Global, cases: &[Expected<'_>]) -> Result<usize, AllocError> {
     for i in 0..cases.len() {
         let (lines, status, differences) = cases[i];
         if !is_delivered(alloc, lines, status, differences)? {
@@ -159,7 +159,7 @@ fn count_delivered(alloc: Global, cases: &[Expected<'_>]) -> Result<usize, Alloc
 
 #[test]
 fn delivers_to_all(rt: HostRuntime) -> Result<(), Fail> {
-    assert_eq!(rt; count_delivered(rt.alloc(), DELIVERED)?, DELIVERED.len());
+    assert_eq!(rt; count_deliveries(rt.alloc(), DELIVERED)?, DELIVERED.len());
     Ok(())
 }
 
