@@ -5,15 +5,12 @@ ghost use Rattle.std.specs.Bool.{OnTrue};
 ghost use Rattle.mls_leaf.specs.Parent.{rises};
 ghost use Rattle.mls_tree_model.specs.Sets.{has, less, leaf_numbers};
 ghost use Rattle.mls_tree_model.specs.Way.{target_count};
-ghost use Rattle.mls_tree_model.specs.Arrays.{leaf_in};
-ghost use Rattle.mls_tree_model.specs.Term.{size, Leaf};
-ghost use mir.Val.{bool_byte};
+ghost use Rattle.mls_tree_model.specs.Term.{size};
 ghost use Rattle.mls_tree_array.specs.Additions.{AddsCount, AddsCounts};
 
 use crate::places::{leaf_in, parent_in};
 use crate::resolutions::is_reached;
 use crate::subtree::{Parts, Subtree};
-use mls_tree_slot::Slot;
 use std::alloc::AllocError;
 
 /// Whether a search by halves finds a node among these leaves. Where they rise, it misses none.
@@ -69,35 +66,20 @@ fn count_others(leaves: &[u32], added: &[u32]) -> usize
     count
 }
 
-/// Whether the leaf in a place is a node of the resolution that isn't a leaf just added.
-#[inline(always)]
-fn is_counted(place: &Slot, first: u32, added: &[u32]) -> bool
-    ensures { bool_byte result ≡ target_count added.now first (Leaf (leaf_in place.now)) }
-{
-    match leaf_in(place) {
-        Some(_) => !is_leaf_among(added, 2 * u64::from(first)),
-        None => false,
-    }
-}
-
-/// How many nodes of the resolution aren't leaves just added. Two leaves under one parent, which are most of the
-/// nodes, take no call.
+/// How many nodes of the resolution aren't leaves just added.
 #[tactic(auto, unfolding(mls_tree_model::specs::Term::size))]
 fn target_count(tree: &Subtree<'_>, added: &[u32]) -> usize
     ensures value { result ≡ target_count added.now tree.now.first tree.now.term }
     ensures low { result ≤ size tree.now.term * (2 ^ 32 + 1) }
 {
     match tree.parts() {
-        Parts::Leaf(place) => usize::from(is_counted(place, tree.first(), added)),
+        Parts::Leaf(place) => match leaf_in(place) {
+            Some(_) => usize::from(!is_leaf_among(added, 2 * u64::from(tree.first()))),
+            None => 0,
+        },
         Parts::Branch { left, root, right } => match parent_in(root) {
             Some(parent) => 1 + count_others(parent.unmerged_leaves(), added),
-            None => match (left.parts(), right.parts()) {
-                (Parts::Leaf(l), Parts::Leaf(r)) => {
-                    let on_left = usize::from(is_counted(l, left.first(), added));
-                    on_left + usize::from(is_counted(r, right.first(), added))
-                }
-                _ => target_count(&left, added) + target_count(&right, added),
-            },
+            None => target_count(&left, added) + target_count(&right, added),
         },
     }
 }

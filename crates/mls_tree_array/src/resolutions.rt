@@ -60,13 +60,10 @@ pub fn is_reached(tree: &Subtree<'_>) -> bool
         Parts::Leaf(place) => holds_leaf(place),
         Parts::Branch { left, root, right } => match parent_in(root) {
             Some(_) => true,
-            None => match (left.parts(), right.parts()) {
-                (Parts::Leaf(l), Parts::Leaf(r)) => holds_leaf(l) || holds_leaf(r),
-                _ => {
-                    let on_left = is_reached(&left);
-                    on_left || is_reached(&right)
-                }
-            },
+            None => {
+                let on_left = is_reached(&left);
+                on_left || is_reached(&right)
+            }
         },
     }
 }

@@ -13,12 +13,3 @@ returns-then-on_left t c = λ b. rw (reached_sides c.args.tree.now c.in-Branch.l
 
 pub returns-else-on_left : goal.returns-else-on_left
 returns-else-on_left t c = λ b. rw (reached_sides c.args.tree.now c.in-Branch.left _ c.in-Branch.right c.in-Branch.ensures b c.in-None.ensures, ← c.is_reached-on_left.ensures b, c.if-on_left.false) (c.is_reached.ensures _)
-
-pub returns-then-holds_leaf : goal.returns-then-holds_leaf
-returns-then-holds_leaf t c = λ b.
-    rw (reached_sides c.args.tree.now c.in-Branch.left _ c.in-Branch.right c.in-Branch.ensures b c.in-None.ensures, c.in-Leaf-Leaf.ensures, leaf_reached b, ← c.holds_leaf-in-Leaf-Leaf.ensures, c.if-holds_leaf.true)
-
-pub returns-else-holds_leaf : goal.returns-else-holds_leaf
-returns-else-holds_leaf t c = λ b.
-    rw (reached_sides c.args.tree.now c.in-Branch.left _ c.in-Branch.right c.in-Branch.ensures b c.in-None.ensures, c.in-Leaf-Leaf.ensures, c.in-Leaf-Leaf.ensures', leaf_reached b, ← c.holds_leaf-in-Leaf-Leaf.ensures, c.if-holds_leaf.false)
-    (c.holds_leaf-else-holds_leaf.ensures ∙ sym (leaf_reached _ _))
