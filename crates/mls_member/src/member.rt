@@ -1,6 +1,6 @@
 //! A member.
 
-ghost use Rattle.std.specs.Prelude.{◌≡◌, is_some, IfOk};
+ghost use Rattle.std.specs.Prelude.{◌≡◌, ◌==◌, is_some, length, IfOk};
 ghost use Rattle.std.specs.Option.{option_copied};
 ghost use Rattle.mls_types.specs.GroupContext.{group_context};
 ghost use Rattle.mls_types.specs.GroupInfo.{ratchet_tree};
@@ -142,6 +142,13 @@ impl<S: Suite> Member<S> {
         ensures { IfOk result (λ v. ArePairs self.now.keys v.items) }
     {
         self.keys.keys()
+    }
+
+    /// Tells whether it keeps no proposal (RFC 9420, 12.1).
+    pub fn keeps_none(&self) -> bool
+        ensures { result ≡ (length self.now.kept == 0) }
+    {
+        self.kept.is_empty()
     }
 
     /// The message of the proposal that it keeps under a reference (RFC 9420, 12.1).

@@ -2,7 +2,7 @@
 use denote.Ref.{Bor}
 use Rattle.std.proofs.lemmas.List.{length-append}
 use Rattle.std.proofs.Math.Seq.{take-length}
-use Rattle.std.proofs.Common.{◌≡◌, ℕ, ◌-◌, length-drop, ◌≤◌, ◌^◌, List, [], ◌++◌, length, take, drop, Option, Some, None, Result, Ok, Err, refl, sym, ap, subst, ◌∙◌, arith}
+use Rattle.std.proofs.Common.{◌≡◌, ℕ, ◌==◌, true, ◌∷◌, ◌-◌, length-drop, ◌≤◌, ◌^◌, List, [], ◌++◌, length, take, drop, Option, Some, None, Result, Ok, Err, refl, sym, ap, subst, ◌∙◌, arith}
 use Rattle.std.specs.Prelude.{◌≢◌, IfOk, IfSome}
 use Rattle.std.specs.Int.{w16}
 use Rattle.mls_wire.specs.Reading.{uint}
@@ -22,6 +22,7 @@ use Rattle.mls_types.specs.SignedParts.{content_of_body}
 use Rattle.mls_types.specs.PublicMessage.{authenticated_content}
 use Rattle.mls_types.specs.Reference.{proposal_reference}
 use Rattle.mls_types.specs.declared.commit.ProposalOrRef.{ProposalOrRef}
+use Rattle.mls_types.specs.declared.commit.ProposalOrRef.TheVariants as listed
 use Rattle.mls_types.specs.declared.message.MlsMessage.{MlsMessage}
 use Rattle.mls_types.specs.declared.message.MlsMessage.TheVariants as message_of
 use Rattle.mls_types.specs.declared.public_message.PublicMessage.{PublicMessage}
@@ -42,7 +43,7 @@ use Rattle.mls_public_group.proofs.ShortProposal.{short_parts}
 use Rattle.mls_model.specs.Messages.{decode_message, reference_of}
 use Rattle.mls_model.specs.World.{if_proposal}
 use Rattle.mls_model.specs.Journal.{names_in, list_in, list_of_body, list_of_message}
-use Rattle.mls_model.specs.Member.{KeptProposal, named_proposals}
+use Rattle.mls_model.specs.Member.{KeptProposal, kept_under, named_proposals}
 use Rattle.mls_model.specs.Candidate.{package_message}
 use Rattle.mls_public_group.proofs.Lengths.{last_within, length-uint16}
 use Rattle.mls_member.proofs.LengthLaws.{within_limit}
@@ -211,6 +212,17 @@ list_whole bytes message part lends h = subst (λ (l : List ProposalOrRef). IsLi
 no_names : (kept : List KeptProposal) (list : List ProposalOrRef) → list ≡ [] → [] ≡ names_in kept list
 unfolding names_in named_proposals
 no_names kept list none = rw none refl
+
+-- who keeps no proposal knows none that a list names
+unnamed : (list : List ProposalOrRef) → [] ≡ names_in [] list
+unfolding names_in named_proposals kept_under
+unnamed [] = refl
+unnamed (listed.Proposal p ∷ xs) = unnamed xs
+unnamed (listed.Reference r ∷ xs) = unnamed xs
+
+pub none_kept : (kept : List KeptProposal) (list : List ProposalOrRef) → (length kept == 0) ≡ true → [] ≡ names_in kept list
+none_kept [] list e = unnamed list
+none_kept (k ∷ ks) list e = absurd cc
 
 -- ---- what commits name
 

@@ -64,6 +64,10 @@ fn names_of<S: Suite>(
     ensures { (bytes : List ℕ) → LendsWhole mls_message input_limit Shows bytes message.now
         → IfOk result (λ v. v.items ≡ names_in member.now.kept (list_in bytes)) }
 {
+    // A member that keeps no proposal knows none that is named, and the list isn't gone through.
+    if member.keeps_none() {
+        return Ok(Vec::new(alloc));
+    }
     let Ok(message) = message else {
         return Ok(Vec::new(alloc));
     };

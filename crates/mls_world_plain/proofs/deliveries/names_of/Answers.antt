@@ -1,6 +1,11 @@
-use Rattle.std.proofs.Common.{◌∙◌}
-use Rattle.mls_world_plain.proofs.Readings.{names_of_list, no_names_shown, no_names_lent, lent_all}
+use Rattle.std.proofs.Common.{◌∙◌, sym}
+use Rattle.mls_model.specs.Journal.{list_in}
+use Rattle.mls_world_plain.proofs.Readings.{names_of_list, no_names_shown, no_names_lent, none_kept, lent_all}
 use Rattle.mls_world_plain.proofs.deliveries.names_of.Goals as goal
+
+pub returns-then-keeps_none : goal.returns-then-keeps_none
+returns-then-keeps_none g c = λ bytes lends.
+    c.new-then-keeps_none.ensures.items ∙ none_kept c.args.member.now.kept (list_in bytes) (sym c.keeps_none.ensures ∙ c.if-keeps_none.true)
 
 pub returns-in_default : goal.returns-in_default
 returns-in_default g c = λ bytes lends.
