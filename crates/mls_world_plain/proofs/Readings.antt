@@ -2,7 +2,7 @@
 use denote.Ref.{Bor}
 use Rattle.std.proofs.lemmas.List.{length-append}
 use Rattle.std.proofs.Math.Seq.{take-length}
-use Rattle.std.proofs.Common.{◌≡◌, ℕ, ◌==◌, true, ◌∷◌, ◌-◌, length-drop, ◌≤◌, ◌^◌, List, [], ◌++◌, length, take, drop, Option, Some, None, Result, Ok, Err, refl, sym, ap, subst, ◌∙◌, arith}
+use Rattle.std.proofs.Common.{◌≡◌, ℕ, ◌==◌, true, eqb-true, ◌∷◌, ◌-◌, length-drop, ◌≤◌, ◌^◌, List, [], ◌++◌, length, take, drop, Option, Some, None, Result, Ok, Err, refl, sym, ap, subst, ◌∙◌, arith}
 use Rattle.std.specs.Prelude.{◌≢◌, IfOk, IfSome}
 use Rattle.std.specs.Int.{w16}
 use Rattle.mls_wire.specs.Reading.{uint}
@@ -22,7 +22,7 @@ use Rattle.mls_types.specs.SignedParts.{content_of_body}
 use Rattle.mls_types.specs.PublicMessage.{authenticated_content}
 use Rattle.mls_types.specs.Reference.{proposal_reference}
 use Rattle.mls_types.specs.declared.commit.ProposalOrRef.{ProposalOrRef}
-use Rattle.mls_types.specs.declared.commit.ProposalOrRef.TheVariants as listed
+use Rattle.mls_types.specs.declared.commit.ProposalOrRef.TheVariants as item_of
 use Rattle.mls_types.specs.declared.message.MlsMessage.{MlsMessage}
 use Rattle.mls_types.specs.declared.message.MlsMessage.TheVariants as message_of
 use Rattle.mls_types.specs.declared.public_message.PublicMessage.{PublicMessage}
@@ -217,12 +217,12 @@ no_names kept list none = rw none refl
 unnamed : (list : List ProposalOrRef) → [] ≡ names_in [] list
 unfolding names_in named_proposals kept_under
 unnamed [] = refl
-unnamed (listed.Proposal p ∷ xs) = unnamed xs
-unnamed (listed.Reference r ∷ xs) = unnamed xs
+unnamed (item_of.Proposal p ∷ xs) = unnamed xs
+unnamed (item_of.Reference r ∷ xs) = unnamed xs
 
 pub none_kept : (kept : List KeptProposal) (list : List ProposalOrRef) → (length kept == 0) ≡ true → [] ≡ names_in kept list
 none_kept [] list e = unnamed list
-none_kept (k ∷ ks) list e = absurd cc
+none_kept (k ∷ ks) list e = let no : length (k ∷ ks) ≡ 0 = eqb-true (length (k ∷ ks)) 0 e in absurd (omega arith)
 
 -- ---- what commits name
 

@@ -5,11 +5,11 @@ use Rattle.mls_world_plain.proofs.deliveries.names_of.Goals as goal
 
 pub returns-then-keeps_none : goal.returns-then-keeps_none
 returns-then-keeps_none g c = λ bytes lends.
-    c.new-then-keeps_none.ensures.items ∙ none_kept c.args.member.now.kept (list_in bytes) (sym c.keeps_none.ensures ∙ c.if-keeps_none.true)
+    c.new.ensures.items ∙ none_kept c.args.member.now.kept (list_in bytes) (sym c.keeps_none.ensures ∙ c.if-keeps_none.true)
 
 pub returns-in_default : goal.returns-in_default
 returns-in_default g c = λ bytes lends.
-    c.new.ensures.items ∙ no_names_lent c.args.member.now.kept bytes c.args.message.now c.in_default.not-Ok lends
+    c.new-in_default.ensures.items ∙ no_names_lent c.args.member.now.kept bytes c.args.message.now c.in_default.not-Ok lends
 
 pub returns-in-Some : goal.returns-in-Some
 returns-in-Some g c = λ bytes lends.
