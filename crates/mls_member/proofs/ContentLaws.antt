@@ -6,7 +6,9 @@ use Rattle.mls_wire.specs.Combine.{vector, optional}
 use Rattle.mls_wire.specs.Format.{IsBytes}
 use Rattle.mls_wire.specs.Whole.{whole}
 use Rattle.mls_leaf.specs.declared.proposal.Proposal.{Proposal}
+use Rattle.mls_leaf.specs.Faults as leaf_faults
 use Rattle.mls_leaf.specs.Faults.{Spells}
+use Rattle.mls_leaf.specs.declared.error.LeafError.{LeafError}
 use Rattle.mls_leaf.specs.Limits.{input_limit}
 use Rattle.mls_leaf.specs.Proposal.{proposal as proposal_format}
 use Rattle.mls_types.specs.UpdatePath.{update_path}
@@ -28,7 +30,7 @@ use Rattle.mls_view.specs.declared.message.MessageView.{MessageView}
 use Rattle.mls_view.specs.declared.message.MessageView.TheVariants as views
 use Rattle.mls_view.specs.declared.public_message.PublicMessageView.{PublicMessageView}
 use Rattle.mls_view.specs.Shown.{Shows, ShowsPublic, ShowsContent}
-use Rattle.mls_view.specs.Views.{LendsAll}
+use Rattle.mls_view.specs.Views.{LendsAll, LendsWhole}
 use Rattle.mls_model.specs.declared.effect.Effect.{Effect}
 use Rattle.mls_model.specs.Member.{Member}
 use Rattle.mls_model.specs.Messages.{decode_message}
@@ -99,6 +101,13 @@ is_public bytes view (message_of.PublicMessage v) e shows = record { shown = v; 
 is_public bytes view (message_of.Welcome v) e shows = absurd shows
 is_public bytes view (message_of.GroupInfo v) e shows = absurd shows
 is_public bytes view (message_of.KeyPackage v) e shows = absurd shows
+
+-- what the reading of bytes came to: this view, or this fault
+pub lent_all : (bytes : List ℕ) (r : Result MessageView LeafError) (v : MessageView) → r ≡ Ok v → LendsWhole mls_message input_limit Shows bytes r → LendsAll mls_message input_limit Shows bytes v
+lent_all bytes r v e lends = subst (λ (x : Result MessageView LeafError). LendsWhole mls_message input_limit Shows bytes x) e lends
+
+pub lent_fault : (bytes : List ℕ) (r : Result MessageView LeafError) (f : LeafError) → r ≡ Err f → LendsWhole mls_message input_limit Shows bytes r → whole mls_message input_limit bytes ≡ Err (leaf_faults.number_of f)
+lent_fault bytes r f e lends = subst (λ (x : Result MessageView LeafError). LendsWhole mls_message input_limit Shows bytes x) e lends
 
 pub public_of : (bytes : List ℕ) (whole_view : MessageView) (view : PublicMessageView) → LendsAll mls_message input_limit Shows bytes whole_view → whole_view ≡ views.PublicMessage view → IsPublic bytes view
 public_of bytes whole_view view lends is = is_public bytes view lends.value lends.is_read (subst (λ (x : MessageView). Shows x lends.value) is lends.shows)

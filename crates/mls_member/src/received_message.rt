@@ -30,10 +30,13 @@ impl<S: Suite> Member<S> {
         ensures outright { RefusesOutright number_of (message_outer_checks self.old bytes.now)
             result }
     {
+        let message = match message {
+            Ok(message) => message,
+            Err(error) => return Err(Refusal::Leaf(*error)),
+        };
         match message {
-            Ok(MessageView::PublicMessage(view)) => self.message_verdict(view, bytes),
-            Ok(_) => Err(Refusal::NotPublicMessage),
-            Err(error) => Err(Refusal::Leaf(*error)),
+            MessageView::PublicMessage(view) => self.message_verdict(view, bytes),
+            _ => Err(Refusal::NotPublicMessage),
         }
     }
 

@@ -246,10 +246,6 @@ pub no_names_lent : (kept : List KeptProposal) (bytes : List ℕ) (r : Result Me
 no_names_lent kept bytes (Ok v) none lends = absurd (none v refl)
 no_names_lent kept bytes (Err e) none lends = no_names_read kept bytes (number_of e) lends
 
--- bytes that were read, and are this one
-pub lent_all : (bytes : List ℕ) (r : Result MessageView LeafError) (v : MessageView) → r ≡ Ok v → LendsWhole mls_message input_limit Shows bytes r → LendsAll mls_message input_limit Shows bytes v
-lent_all bytes r v e lends = subst (λ (x : Result MessageView LeafError). LendsWhole mls_message input_limit Shows bytes x) e lends
-
 -- ---- the message of a KeyPackage
 
 pub package_behind : (k : KeyPackage) → drop 4 (package_message k) ≡ key_package.spell k

@@ -1,4 +1,4 @@
 use Rattle.mls_welcome.proofs.ranges.know_capabilities.Goals as goal
 
 pub returns : goal.returns
-returns c = λ lt. c.bytes-_spelled.ensures.fits
+returns c = λ lt. c.bytes-spelled.ensures.fits

@@ -1,6 +1,7 @@
 use Rattle.std.proofs.Common.{◌∙◌, sym}
 use Rattle.mls_model.specs.Journal.{list_in}
-use Rattle.mls_world_plain.proofs.Readings.{names_of_list, no_names_shown, no_names_lent, none_kept, lent_all}
+use Rattle.mls_member.proofs.ContentLaws.{lent_all}
+use Rattle.mls_world_plain.proofs.Readings.{names_of_list, no_names_shown, no_names_lent, none_kept}
 use Rattle.mls_world_plain.proofs.deliveries.names_of.Goals as goal
 
 pub returns-then-keeps_none : goal.returns-then-keeps_none

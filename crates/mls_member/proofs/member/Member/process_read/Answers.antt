@@ -1,7 +1,7 @@
 use Rattle.std.proofs.Common.{sym, ap, ◌∙◌, arith}
 use Rattle.mls_model.specs.Member.{Pending, with_epoch}
 use Rattle.mls_member.proofs.Good.{not_gone, own_good, other_good}
-use Rattle.mls_member.proofs.member.Member.process.Goals as goal
+use Rattle.mls_member.proofs.member.Member.process_read.Goals as goal
 
 pub returns-in-Some-clause-good : goal.returns-in-Some-clause-good
 returns-in-Some-clause-good g c = λ good.
