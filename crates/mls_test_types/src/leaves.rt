@@ -118,7 +118,7 @@ fn are_kept(alloc: Global) -> Result<bool, LeafError> {
     let made = SpelledCapabilities::of(alloc, &lists)?;
     Ok(
         made == leaf.capabilities
-            && made.bytes() == [2, 0, 1, 2, 0xf0, 1, 0, 0, 2, 0, 1]
+            && made.bytes() == [2, 0, 1, 2, 0xf0, 1, 0, 0, 2, 0, 1].as_slice()
             && made.support(1, 0xf001, 1)
             && !made.support(1, 0xf002, 1),
     )
