@@ -11,6 +11,7 @@ use crate::group::{additions, box_candidate, group_of, join_group};
 use crate::talk::converse;
 use anyhow::{Result, bail};
 use mls_conversation::Conversation;
+use mls_leaf::LeafNode;
 use mls_member::{Candidate, Made, Member};
 use mls_suite::Glass;
 use mls_tree::PublicTree;
@@ -257,6 +258,60 @@ fn edit_tree(rt: &impl Print, alloc: Global, tree: &mut PublicTree, number: u32)
     Ok(())
 }
 
+/// The leaves of so many candidates, from this number on.
+fn leaves_from(alloc: Global, first: u32, count: u32) -> Result<Vec<LeafNode>> {
+    let mut leaves = Vec::new(alloc);
+    for number in first..first.saturating_add(count) {
+        let offered = candidate(alloc, number)?;
+        leaves.push(offered.leaf_node().clone()?)?;
+    }
+    Ok(leaves)
+}
+
+/// Adds each of the leaves. The tree hash is made after each.
+fn fill_tree(tree: &mut PublicTree, leaves: Vec<LeafNode>) -> Result<()> {
+    for leaf in leaves {
+        tree.add(leaf)?;
+        tree.tree_hash();
+    }
+    Ok(())
+}
+
+/// Gives the first leaves these nodes. The tree hash is made after each.
+fn renew_tree(tree: &mut PublicTree, leaves: Vec<LeafNode>) -> Result<()> {
+    let mut place = 0;
+    for leaf in leaves {
+        tree.update(place, leaf)?;
+        tree.tree_hash();
+        place = place.saturating_add(1);
+    }
+    Ok(())
+}
+
+/// Removes the members from leaf `first` on, the last one first. The tree hash is made after each.
+fn halve_tree(tree: &mut PublicTree, first: u32, count: u32) -> Result<()> {
+    for k in 0..count {
+        tree.remove(first.saturating_add(count - 1 - k))?;
+        tree.tree_hash();
+    }
+    Ok(())
+}
+
+/// A copy of a tree is filled until it has twice the members, half of them are updated, and it is halved again.
+fn edit_all(rt: &impl Print, alloc: Global, member: &Member<Glass>, members: u32) -> Result<()> {
+    let added = leaves_from(alloc, members, members)?;
+    let renewed = leaves_from(alloc, members.saturating_mul(2), members)?;
+    let mut tree = member.group().tree().clone()?;
+    println!(rt; "before: all edits")?;
+    fill_tree(&mut tree, added)?;
+    println!(rt; "filling: {} leaves", tree.leaf_count())?;
+    renew_tree(&mut tree, renewed)?;
+    println!(rt; "updates: {members}")?;
+    halve_tree(&mut tree, members, members)?;
+    println!(rt; "halving: {} leaves", tree.leaf_count())?;
+    Ok(())
+}
+
 /// A tree is made of nodes.
 fn read_tree(rt: &impl Print, nodes: Vec<Slot>) -> Result<()> {
     println!(rt; "before: nodes")?;
@@ -311,6 +366,7 @@ fn call(rt: &impl Print, alloc: Global, number: u32, lines: &[&str; LINES]) -> R
     call_conversation(rt, alloc, &member, &[lines[2], lines[3], lines[4]])?;
     let next = number.saturating_add(1);
     call_tree(rt, alloc, &member, next)?;
+    edit_all(rt, alloc, &member, next)?;
     call_saved(rt, alloc, &member, next)?;
     call_proposals(rt, alloc, &mut member, &lines[5..])
 }
