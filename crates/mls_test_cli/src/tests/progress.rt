@@ -1,6 +1,6 @@
 //! What is said of how far a replay is, by way of `serve`.
 
-use crate::tests::ends::count_pages_in_lines;
+use crate::tests::ends::count_lines;
 use crate::tests::faults::fails_at_line;
 use crate::tests::rows::{JOIN, JOIN_TEXT};
 use crate::tests::{Full, OUT_OF_MEMORY, request_of, unless_out_of_memory, with_room};
@@ -243,7 +243,7 @@ fn has_lines(alloc: Global, all: usize, lines: usize) -> Result<bool, AllocError
     let said = report_each(alloc, all, 8192)?;
     let text = said.held.as_slice();
     let last = format!(in alloc; "mls: {all} of {all} events\n")?;
-    Ok(text.ends_with(last.as_bytes()) && count_pages_in_lines(text) == lines)
+    Ok(text.ends_with(last.as_bytes()) && count_lines(text) == lines)
 }
 
 /// Of how many events how many lines are said.
