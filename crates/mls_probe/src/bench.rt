@@ -11,6 +11,7 @@ use crate::group::{additions, box_candidate, group_of, join_group};
 use crate::talk::converse;
 use anyhow::{Result, bail};
 use mls_conversation::Conversation;
+use mls_leaf::LeafNode;
 use mls_member::{Candidate, Made, Member};
 use mls_suite::Glass;
 use mls_tree::PublicTree;
@@ -257,6 +258,64 @@ fn edit_tree(rt: &impl Print, alloc: Global, tree: &mut PublicTree, number: u32)
     Ok(())
 }
 
+/// The leaves of so many candidates, from this number on.
+fn leaves_from(alloc: Global, first: u32, count: u32) -> Result<Vec<LeafNode>> {
+    let mut leaves = Vec::new(alloc);
+    for number in first..first.saturating_add(count) {
+        let offered = candidate(alloc, number)?;
+        leaves.push(offered.leaf_node().clone()?)?;
+    }
+    Ok(leaves)
+}
+
+/// Adds each of the leaves. The tree hash is made after each.
+fn fill_tree(tree: &mut PublicTree, leaves: Vec<LeafNode>) -> Result<()> {
+    for leaf in leaves {
+        tree.add(leaf)?;
+        tree.tree_hash();
+    }
+    Ok(())
+}
+
+/// Gives the first leaves these nodes. The tree hash is made after each.
+fn renew_tree(tree: &mut PublicTree, leaves: Vec<LeafNode>) -> Result<()> {
+    let mut leaf = 0;
+    for node in leaves {
+        tree.update(leaf, node)?;
+        tree.tree_hash();
+        leaf = leaf.saturating_add(1);
+    }
+    Ok(())
+}
+
+/// Removes the members from leaf `first` on, the last one first. The tree hash is made after each.
+fn halve_tree(tree: &mut PublicTree, first: u32) -> Result<()> {
+    let mut leaf = tree.leaf_count();
+    while leaf > first {
+        leaf -= 1;
+        if tree.leaf(leaf).is_some() {
+            tree.remove(leaf)?;
+            tree.tree_hash();
+        }
+    }
+    Ok(())
+}
+
+/// A tree loses the members of its second half, gets as many new ones, and the nodes of its first half are renewed.
+fn edit_all(rt: &impl Print, alloc: Global, tree: &mut PublicTree, number: u32) -> Result<()> {
+    let half = tree.leaf_count() / 2;
+    let added = leaves_from(alloc, number, half)?;
+    let renewed = leaves_from(alloc, number.saturating_add(half), half)?;
+    println!(rt; "before: all edits")?;
+    halve_tree(tree, half)?;
+    println!(rt; "halving: {half} leaves")?;
+    fill_tree(tree, added)?;
+    println!(rt; "filling: {} leaves", tree.leaf_count())?;
+    renew_tree(tree, renewed)?;
+    println!(rt; "renewing: {half} leaves")?;
+    Ok(())
+}
+
 /// A tree is made of nodes.
 fn read_tree(rt: &impl Print, nodes: Vec<Slot>) -> Result<()> {
     println!(rt; "before: nodes")?;
@@ -282,6 +341,8 @@ fn call_tree(rt: &impl Print, alloc: Global, member: &Member<Glass>, number: u32
     println!(rt; "before: drop")?;
     drop(copy);
     println!(rt; "drop of the copy: done")?;
+    let mut another = tree.clone()?;
+    edit_all(rt, alloc, &mut another, number)?;
     read_tree(rt, tree.to_nodes()?)
 }
 
