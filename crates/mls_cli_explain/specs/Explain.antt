@@ -19,7 +19,7 @@ unfoldable pub number_from : ℕ → ℕ → List ℕ → Option ℕ
 number_from zero k name = None
 number_from (suc n) k name = if bytes_eq name (name_told k) then Some k else number_from n (k + 1) name
 
--- the numbers of refusals are below this
+-- the numbers of the refusals that are told are below this
 abbrev pub end_of_numbers : ℕ
 end_of_numbers = 120
 

@@ -69,7 +69,7 @@ impl<S: Suite> Member<S> {
         requires { IsBelow (2 ^ 28) key_package_format key_package.now }
         ensures answer { ProposesAdd S.crypto key_package.now self.old self.new result }
         ensures good { IsGoodMember S.crypto self.old → IsGoodMember S.crypto self.new }
-        // It takes no memory.
+        // `Gone` (40) comes also when an allocation fails.
         ensures gone { self.old.gone ≡ true → result ≡ Err Gone }
     {
         if self.gone {
@@ -133,7 +133,7 @@ impl<S: Suite> Member<S> {
     pub fn propose_extensions(&mut self, extensions: GroupExtensions) -> Result<Vec<u8>, Refusal>
         ensures answer { ProposesExtensions S.crypto extensions self.old self.new result }
         ensures good { IsGoodMember S.crypto self.old → IsGoodMember S.crypto self.new }
-        // It takes no memory.
+        // `Gone` (40) comes also when an allocation fails.
         ensures gone { self.old.gone ≡ true → result ≡ Err Gone }
     {
         if self.gone {

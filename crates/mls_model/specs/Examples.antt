@@ -120,7 +120,7 @@ list_with n = record { kind = 61440; content = n ∷ [] } ∷ []
 abbrev pub use_of_list : ℕ → List Extension → Used
 use_of_list sender list = use_of sender (proposal.GroupContextExtensions list)
 
--- two lists are refused, of two members or of one, and where they are the same list too; two updates of one leaf are
+-- two lists are refused, of two members or of one, and where they are the same list too; two removals of one leaf are
 -- refused before that
 abbrev pub TwoLists : Type 0
 TwoLists = (c : Crypto) (context : GroupContext) (interim : List ℕ) →

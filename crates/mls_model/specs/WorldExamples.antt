@@ -38,11 +38,12 @@ NotMadeHere = is_homemade [] (with_entry created_0 (entry_with 1)) ≡ false
 abbrev pub MadeLater : Type 0
 MadeLater = is_homemade (made_at created_0 1 9 ∷ []) (with_entry created_0 (entry_with 1)) ≡ true
 
--- a journal is homemade no more where a call makes its commit again and reaches another epoch secret
+-- a journal stays homemade where a call makes its commit again and reaches the same epoch secret
 abbrev pub MadeAgain : Type 0
 MadeAgain = is_homemade (made_at created_0 1 9 ∷ made_at created_0 1 9 ∷ [])
     (with_entry created_0 (entry_with 1)) ≡ true
 
+-- a journal is homemade no more where a call makes its commit again and reaches another epoch secret
 abbrev pub MadeOtherwise : Type 0
 MadeOtherwise = is_homemade (made_at created_0 1 9 ∷ made_at created_0 1 8 ∷ [])
     (with_entry created_0 (entry_with 1)) ≡ false

@@ -11,8 +11,8 @@ use Rattle.mls_treekem_model.specs.Chain.{node_public}
 use Rattle.mls_treekem_model.specs.Keys.{Keys, rest, leaf_only, PrivateKeys, all_keys, keys_on_way}
 use Rattle.mls_treekem_model.specs.Make.{Climb, climb_past_blank, climb_past_node, secret_above}
 
--- a climb past a parent: a blank one takes no step, another one doesn't list the joiner and has the derived public key,
--- else `PathKeyMismatch` (34) (RFC 9420, 12.4.3.1)
+-- a climb past a parent: a blank one takes no step, another one has the derived public key (RFC 9420, 12.4.3.1) and,
+-- which the standard doesn't ask, doesn't list the joiner, else `PathKeyMismatch` (34)
 abbrev pub climb_past_present : Crypto → ℕ → Option Parent → Climb → Result Climb ℕ
 climb_past_present c j None m = Ok (climb_past_blank m)
 climb_past_present c j (Some p) m =

@@ -1,4 +1,4 @@
--- The name of each refusal, by its number: one table for all crates.
+-- The name of each refusal below 100, by its number: one table for all crates.
 use Rattle.std.specs.Prelude.{◌≡◌, ℕ, ◌==◌, if◌then◌else◌, List, [], ◌∷◌, ◌++◌, codes}
 
 -- the name of a number in a table; no bytes where it isn't there
@@ -37,6 +37,6 @@ names_of_joins =
     ∷ (80, codes "NotInTree") ∷ (90, codes "NoSuchMember") ∷ (91, codes "CandidateSpent") ∷ (92, codes "NoSuchCandidate") ∷ (93, codes "CandidateRepeated")
     ∷ (94, codes "NoSuchMessage") ∷ (95, codes "WrongMessageKind") ∷ []
 
--- the name, as it is printed; no bytes where no refusal has the number
+-- the name, as it is printed; no bytes where no refusal below 100 has the number
 abbrev pub refusal_name : ℕ → List ℕ
 refusal_name n = name_in (names_of_bytes ++ names_of_trees ++ names_of_members ++ names_of_joins) n

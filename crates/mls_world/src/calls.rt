@@ -106,8 +106,8 @@ impl<S: Suite> World<S> {
         seed: &Seed,
     ) -> Result<NewCommit, WorldError>
         ensures does { Commits S.crypto self.old self.new member items.now path seed.now result }
-        // `NoSuchMember` (90), and of the first item `NoSuchMessage` (94), decoding's and `WrongMessageKind` (95), come
-        // also when an allocation fails.
+        // `NoSuchMember` (90), and of the first item `NoSuchMessage` (94), decoding's, `WrongMessageKind` (95) and
+        // `ExtensionNotAllowed` (14), come also when an allocation fails.
         ensures outright { RefusesEarly (early_commit_checks self.old member items.now) result }
         ensures headline { Headline S.crypto self.new }
     {
