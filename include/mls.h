@@ -4,7 +4,8 @@
  * uses a handle, and none after its free. Bytes go in as a pointer and a length, and the library copies them; they come
  * out as a handle of bytes. A seed is 32 random bytes, used once.
  *
- * Each call answers 0, or the number of a refusal, as docs/REFUSALS.md lists them: then its handle holds what it held
+ * Each call answers 0, or the number of a refusal, as docs/REFUSALS.md lists them (`mls --explain` tells of those below
+ * 120): then its handle holds what it held
  * before, and the handles that it would write are null, the number 0. A place to write to may be null, where what comes
  * there isn't wanted. Whatever bytes come, no call ends the process.
  */
@@ -43,7 +44,8 @@ uint32_t mls_bytes_length(mls_bytes *bytes, uint64_t *length);
 /* The byte at an index of bytes, or 135 where there is none. */
 uint32_t mls_bytes_at(mls_bytes *bytes, uint64_t index, uint64_t *byte);
 
-/* Copies bytes into a buffer of their length; one of another length answers 135, and stays as it is. */
+/* Copies bytes into a buffer of their length, which isn't null even for none; one of another length answers 135, and
+ * stays as it is. */
 uint32_t mls_bytes_copy(mls_bytes *bytes, uint8_t *buffer, size_t buffer_length);
 
 /* Makes a candidate for membership, of an identity and a seed. */
@@ -104,8 +106,8 @@ uint32_t mls_member_propose_update(mls_member *member, const uint8_t *seed, size
 /* Proposes to remove a leaf, keeps the proposal, and makes its message for the others. */
 uint32_t mls_member_propose_remove(mls_member *member, uint64_t leaf, mls_bytes **message);
 
-/* Proposes that the group carry the extensions that bytes spell, keeps the proposal, and makes its message for the
- * others. */
+/* Proposes that the group carry the extensions that bytes spell (GroupExtensions of docs/FORMATS.md, with their length),
+ * keeps the proposal, and makes its message for the others. */
 uint32_t mls_member_propose_extensions(mls_member *member, const uint8_t *extensions, size_t extensions_length,
                                        mls_bytes **message);
 

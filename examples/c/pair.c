@@ -1,6 +1,8 @@
 /* The life of a group of two, as a C program writes it. Seeds are random in earnest; here they are fixed.
  *
- *     tools/build-library && gcc -Iinclude examples/c/pair.c crates/mls_c/out/libmls.a -o pair && ./pair
+ *     gcc -Iinclude examples/c/pair.c crates/mls_c/out/libmls.a -o pair && ./pair
+ *
+ * ./test or tools/build-library leaves the archive.
  */
 #include <inttypes.h>
 #include <stdio.h>

@@ -1,4 +1,5 @@
-"""Messaging Layer Security (RFC 9420) under cipher suite 0x0001, over the shared library that tools/build-library makes.
+"""Messaging Layer Security (RFC 9420) under cipher suite 0x0001, over the shared library that ./test or
+tools/build-library leaves.
 
     python3 examples/python/mls.py         the life of a group of two
 
@@ -202,7 +203,7 @@ class Member(Held):
         return library.bytes("member_propose_remove", self.handle, ctypes.c_uint64(leaf))
 
     def propose_extensions(self, extensions):
-        """A message that proposes that the group carry the extensions that bytes spell."""
+        """A message that proposes that the group carry the extensions that bytes spell, with their length."""
         return library.bytes("member_propose_extensions", self.handle, extensions)
 
     def drop_pending(self):

@@ -7,8 +7,8 @@ ghost use Rattle.aes128gcm.specs.Circuit.{sub_words};
 
 use crate::slices::Slices;
 
-/// The S-box's circuit (Boyar and Peralta), at each bit of eight words. It is one straight line of gates, which has no
-/// parts with a meaning of their own.
+/// The S-box's circuit (Boyar and Peralta), at each bit of eight words. It is one straight line of gates: a linear layer,
+/// an inversion and a linear layer, whose wires cross.
 #[inline(always)]
 #[tactic(auto, unfolding(crate::specs::Circuit::sub_words, crate::specs::Circuit::circuit))]
 fn sub_words(q: Slices) -> Slices

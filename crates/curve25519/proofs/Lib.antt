@@ -1,5 +1,4 @@
 pub mod Certificates
-pub mod Coded
 pub mod Curve25519
 pub mod Edwards
 pub mod Evaluation

@@ -8,3 +8,4 @@ pub mod Field25519
 pub mod Curve25519
 pub mod X25519
 pub mod Laws
+pub mod Codes

@@ -7,7 +7,7 @@ use Rattle.std.proofs.lemmas.Bool.{eq-eqb, ne_eqb, lt-ltb, cases_eq}
 use Rattle.curve25519.specs.Modular.{of, modulo}
 use Rattle.curve25519.specs.Powers.{power}
 use Rattle.curve25519.specs.Field25519.{prime, below, field, residue, least, raise}
-use Rattle.curve25519.proofs.Coded.{residue_least}
+use Rattle.curve25519.specs.Codes.{residue_least}
 use Rattle.curve25519.specs.Curve25519.{d, root_of_minus_one, Point, On}
 use Rattle.curve25519.proofs.Identities.{Term, v, i, o, ◌⊕◌, ◌⊗◌, -◌, ◌⊖◌, lookup, ring, follows}
 use Rattle.curve25519.proofs.Powers.{power-zero, power-suc}

@@ -1,7 +1,7 @@
 //! Elements of the field of the numbers modulo 2^255 - 19.
 ghost use Rattle.std.specs.Prelude.{◌≡◌, ℕ, ◌+◌, ◌*◌, ◌^◌, ◌-◌, ◌<◌, ◌%◌, ◌==◌};
 ghost use Rattle.curve25519.specs.Field25519.{field, residue, least, raise};
-ghost use Rattle.curve25519.proofs.Coded.{coded_number};
+ghost use Rattle.curve25519.specs.Codes.{coded_number};
 ghost use Rattle.field25519.specs.Bytes.{joined};
 ghost use Rattle.field25519.specs.Digits.{number, AreTight, AreLoose};
 

@@ -3,7 +3,7 @@ use Rattle.std.specs.Prelude.{◌≡◌, ℕ, ◌+◌, ◌*◌, ◌/◌, ◌%◌
 use Rattle.std.specs.Int.{byte_worth, sum_through}
 use Rattle.std.proofs.Common.{sym, ap, ap₂, ◌∙◌, arith}
 use Rattle.curve25519.specs.Field25519.{prime, field, residue, least}
-use Rattle.curve25519.proofs.Coded.{residue_least}
+use Rattle.curve25519.specs.Codes.{residue_least}
 use Rattle.curve25519.specs.X25519.{x25519, nine, clear_cofactor}
 use Rattle.curve25519.proofs.Field25519.{least_below, residue-zero}
 use Rattle.curve25519.proofs.X25519.{exchange_law as exchanged, x25519_nonzero, clear_cofactor_nonzero}

@@ -3,7 +3,7 @@ ghost use Rattle.std.specs.Prelude.{◌≡◌, ◌<◌};
 ghost use Rattle.curve25519.specs.Field25519.{field};
 ghost use Rattle.curve25519.specs.Ladder.{State, swap as swap_over, advance as advance_over, ladder as ladder_over};
 ghost use Rattle.curve25519.specs.X25519.{a24};
-ghost use Rattle.curve25519.proofs.Coded.{coded_state};
+ghost use Rattle.curve25519.specs.Codes.{coded_state};
 ghost use Rattle.field25519.specs.Bytes.{joined};
 
 use field25519::{Element, Words};
