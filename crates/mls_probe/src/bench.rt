@@ -290,9 +290,8 @@ fn renew_tree(tree: &mut PublicTree, leaves: Vec<LeafNode>) -> Result<()> {
 
 /// Removes the members from leaf `first` on, the last one first. The tree hash is made after each.
 fn halve_tree(tree: &mut PublicTree, first: u32) -> Result<()> {
-    let mut leaf = tree.leaf_count();
-    while leaf > first {
-        leaf -= 1;
+    let count = tree.leaf_count();
+    for leaf in (first..count).rev() {
         if tree.leaf(leaf).is_some() {
             tree.remove(leaf)?;
             tree.tree_hash();
