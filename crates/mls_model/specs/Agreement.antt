@@ -8,14 +8,14 @@ use Rattle.mls_model.specs.Member.{KeptProposal, Member, kept_under}
 
 -- ---- agreement
 
--- two members hold one public state
+-- two members hold one public state; `confirmed` is a part of `context`, named for itself
 pub record Agree (m n : Member) : Type 0 where
   pub tree : m.public.tree ≡ n.public.tree
   pub context : m.public.context ≡ n.public.context
   pub confirmed : m.public.context.confirmed_transcript_hash ≡ n.public.context.confirmed_transcript_hash
   pub interim : m.public.interim ≡ n.public.interim
 
--- two members hold one epoch secret, and the nine secrets that it gives (RFC 9420, 8)
+-- two members hold one epoch secret, and so the nine secrets that it gives (RFC 9420, 8)
 pub record AgreeSecret (m n : Member) : Type 0 where
   pub epoch : m.epoch_secret ≡ n.epoch_secret
   pub nine : nine_secrets m.epoch_secret ≡ nine_secrets n.epoch_secret

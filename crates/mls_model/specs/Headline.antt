@@ -1,8 +1,8 @@
 -- What holds of each world that a list of events leaves. `step` says what an event does where there is memory; where
--- there is none, code answers `OutOfMemory` (1) and leaves all as before. A seat is a member with its journal: where it
--- began, and an entry for each commit that it followed since. The list `commits` has the commits that were made in the
--- world. A journal is homemade where it began with a creation, and each of its entries was made in the world at the
--- journal before it, by calls that reached one epoch secret.
+-- there is none, code answers `OutOfMemory` (1) and leaves what the events before led to. A seat is a member with its
+-- journal: where it began, and an entry for each commit that it followed since. The list `commits` has the commits that
+-- were made in the world. A journal is homemade where it began with a creation, and each of its entries was made in the
+-- world at the journal before it, by calls that reached one epoch secret.
 use Rattle.std.specs.Prelude.{◌≡◌, ◌≢◌, ℕ, ◌+◌, ◌<◌, Bool, true, false, List, length, take, slice_get, Option, Some, None, Result, Ok, Err}
 use Rattle.std.specs.List.{AllByRecursion, list_any}
 use Rattle.std.specs.Str.{bytes_eq}

@@ -84,7 +84,8 @@ abbrev pub NodeFits : Option Node → Type 0
 NodeFits None = Unit {0}
 NodeFits (Some n) = node.Fits n
 
--- a member of a run is good: its tree, its private keys, what it keeps and what it has pending
+-- a member is good: its tree, its private keys, what it keeps and what it has pending, and its context and nodes have
+-- spellings
 pub record IsGoodMember (c : Crypto) (m : Member) : Type 0 where
   pub tree : IsGood (rules_of c m.public.context.group_id) m.public.tree
   pub hash : m.public.context.tree_hash ≡ tree_hash 0 m.public.tree

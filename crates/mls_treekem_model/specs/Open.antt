@@ -70,7 +70,7 @@ opened_along c context added (s ∷ ss) j ks ns =
 unfoldable pub opened_secret : Crypto → List ℕ → List ℕ → Term → ℕ → ℕ → Keys → List UpdatePathNode → Result (List ℕ) ℕ
 opened_secret c context added t i j ks path = opened_along c context added (way 0 t i) j ks (reverse path)
 
--- how many parents of the filtered direct path there are, from that one up
+-- how many parents of the filtered direct path there are, from the lowest over both leaves up
 unfoldable pub filtered_from : List Step → ℕ → ℕ
 filtered_from [] j = 0
 filtered_from (s ∷ ss) j = one_if (is_filtered s) (if is_beside s j then 0 else filtered_from ss j)

@@ -20,7 +20,7 @@ use std::marker::Model;
 /// Is a world that came from the empty one by events.
 pub struct World<S: Suite> {
     pub(crate) world: PlainWorld<S>,
-    // Proofs take it for the `Vec` of an event whose elements are those of a slice.
+    // `reload` allocates with it, and proofs take it for the `Vec` of an event whose elements are those of a slice.
     pub(crate) alloc: Global,
 }
 
