@@ -70,7 +70,8 @@ key_for (s ∷ ss) j (o ∷ ks) n = if n == s.node then o else key_for ss j ks n
 abbrev pub key_in : ℕ → Term → ℕ → Keys → ℕ → Option (List ℕ)
 key_in b t j ks n = key_for (way b t j) j ks n
 
--- a member's leaf with its private key, and the keys that it has above, the highest first
+-- a member's leaf with its private key, and the keys that it has above, the highest first: the last is of the node right
+-- over the leaf, and the list may be shorter than the way, as no key is held of nodes that are higher
 pub record PrivateKeys : Type 0 where
   pub leaf : ℕ
   pub own : List ℕ
