@@ -181,7 +181,8 @@ impl<S: Suite> Member<S> {
 
     /// Commits the kept proposals that go together: all but its own updates and removals of itself, updates of leaves
     /// that are removed, and where several change one leaf, add one client or set the group's extensions, those before
-    /// the last. It answers as `commit` of their references (RFC 9420, 12.2 and 12.4.1).
+    /// the last. It answers as `commit` of their references (RFC 9420, 12.2 and 12.4.1): also `ClientRepeated` (26) or
+    /// `KeyRepeated` (25) where one adds somebody who is there, as they aren't held against the tree.
     pub fn commit_kept(&mut self, path: bool, seed: &Seed) -> Result<KeptCommit, Refusal>
         ensures answer { CommitsKept S.crypto path seed.now self.old self.new result }
         ensures left_out { IfOk result (λ x. x.left_out.items ≡ left_out_of self.old) }
