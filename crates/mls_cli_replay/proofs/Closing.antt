@@ -1,22 +1,15 @@
 -- The whole of a replay: what is said of actions, and then in the end.
-use Rattle.std.proofs.Common.{◌≡◌, ◌≢◌, inl, inr, arith, ◌∙◌, ◌++◌, ◌&&◌, [], ℕ, Bool, true, false, List, Option, Result, Ok, Err, refl, ap, sym, subst, append-nil}
+use Rattle.std.proofs.Common.{◌≡◌, ◌∙◌, ◌++◌, ◌&&◌, [], ℕ, Bool, true, false, List, Option, refl, ap, sym, subst, append-nil}
 use Rattle.std.proofs.lemmas.Grind.{flat_map-append}
 use Rattle.std.proofs.KnownBytes.{Appends-trans}
 use Rattle.std.specs.List.{flat_map}
 use Rattle.std.specs.Io.KnownBytes.{Appends}
 use Rattle.mls_suite.specs.Crypto.{Crypto}
 use Rattle.mls_model.specs.World.{World, empty_world}
-use Rattle.mls_cli_text.specs.Page.{Printout, ending_status, ending_text, printout, refused}
-use Rattle.mls_cli_json.specs.Faults.{number_of}
-use Rattle.mls_cli_json.specs.declared.error.JsonError.{JsonError}
-use Rattle.mls_cli_json.specs.declared.error.JsonError.TheVariants as error
-use Rattle.mls_cli_text.specs.declared.fault.Fault.{Fault}
-use Rattle.mls_cli_recording.specs.Calls.{recording_view}
-use Rattle.mls_cli_recording.specs.Recording.{recording}
+use Rattle.mls_cli_text.specs.Page.{ending_status, ending_text, printout}
 use Rattle.mls_cli_recording.specs.declared.reading.Recorded.{Recorded}
-use Rattle.mls_cli_recording.specs.declared.reading.RecordedRun.{RecordedRun}
 use Rattle.mls_cli_replay.specs.Actions.{outcomes, run_all}
-use Rattle.mls_cli_replay.specs.Replay.{IsRefusal, IsReplay, PrintsOne, actions_of, all_meet, closing_entries, closing_text, ending_by, entry_text, expectations_of, final_entries, is_as_expected, is_silent, outcome_entries, page_of_run, played_entries, played_page}
+use Rattle.mls_cli_replay.specs.Replay.{actions_of, all_meet, closing_entries, closing_text, ending_by, entry_text, expectations_of, final_entries, is_as_expected, is_silent, outcome_entries, played_entries, played_page}
 use Rattle.mls_cli_replay.proofs.Playing.{said}
 
 pub no_more_said : (met : Bool) → ending_text (ending_by met) ≡ []
@@ -57,22 +50,3 @@ module _ (c : Crypto) (rs : List Recorded) (lines : Option (List (List ℕ))) wh
     subst (Appends old now) (sym (text_from w v begun is)) (Appends-trans old new now (said c w 0 rs) (closing_text v.seats lines) first second),
     answers ∙ ap (λ b. ending_status (ending_by b)) (met_from w v met same begun is meets ends) ∙ sym status_is,
   )
-
--- ---- a file's replay
-
-pub is_replay : (c : Crypto) (file : List ℕ) (r : RecordedRun) → recording c.number file ≡ Ok (recording_view r) → IsReplay c file (printout entry_text (page_of_run c r))
-is_replay c file r e = (page_of_run c r, rw e (r, refl, refl), refl)
-
-is_refused : (c : Crypto) (file : List ℕ) (n : ℕ) → recording c.number file ≡ Err n → IsReplay c file (printout entry_text (refused n))
-is_refused c file n e = (refused n, rw e refl, refl)
-
-refusal_is : (c : Crypto) (file : List ℕ) (e : JsonError) → (number_of e ≢ 1 → recording c.number file ≡ Err (number_of e)) → (p : Printout) → IsRefusal e p → IsReplay c file p
-refusal_is c file error.OutOfMemory is p never = absurd never
-refusal_is c file error.NotHex is p same = subst (IsReplay c file) (sym same) (is_refused c file 8 (is (λ q. omega arith)))
-refusal_is c file error.BadJson is p same = subst (IsReplay c file) (sym same) (is_refused c file 9 (is (λ q. omega arith)))
-
-pub refusal_prints : (c : Crypto) (file : List ℕ) (e : JsonError) (old new : Option (List ℕ)) (r : Result ℕ Fault) → (number_of e ≢ 1 → recording c.number file ≡ Err (number_of e))
-    → PrintsOne (IsRefusal e) old new r → PrintsOne (IsReplay c file) old new r
-refusal_prints c file e old new (Ok status) is (p, same, grew, answers) = (p, refusal_is c file e is p same, grew, answers)
-refusal_prints c file e old new (Err f) is (inl kept) = inl kept
-refusal_prints c file e old new (Err f) is (inr (p, same, part)) = inr (p, refusal_is c file e is p same, part)

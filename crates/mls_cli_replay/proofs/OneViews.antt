@@ -1,4 +1,4 @@
--- Actions that stand for the same calls have one quiet page, leave one tree, and come to one JSON.
+-- What is printed of files that record the same calls.
 use Rattle.std.proofs.Common.{◌≡◌, ◌∙◌, ◌&&◌, ℕ, List, ◌++◌, Option, None, Some, Result, Ok, Err, map, inl, inr, refl, ap, sym, subst}
 use Rattle.serde_json.specs.Data.{Data}
 use Rattle.mls_suite.specs.Crypto.{Crypto}
@@ -14,14 +14,17 @@ use Rattle.mls_cli_recording.specs.declared.reading.RecordedRun.{RecordedRun}
 use Rattle.mls_cli_replay.specs.Actions.{outcomes, run_all}
 use Rattle.mls_cli_replay.specs.MemberTree.{IsSpelling, IsTree, IsTreeOf, IsTreeOn, member_at}
 use Rattle.mls_cli_replay.specs.Message.{digits_text}
-use Rattle.mls_cli_replay.specs.OneView.{OneQuiet, OneRecord, OneTree, ReadAlike}
-use Rattle.mls_cli_replay.specs.Quiet.{quiet_actions, quiet_entries, quiet_page, quiet_page_of}
+use Rattle.mls_cli_replay.specs.OneView.{AreOne, OneView, ReadAlike}
+use Rattle.mls_cli_replay.specs.Quiet.{quiet_actions, quiet_entries, quiet_page}
 use Rattle.mls_cli_replay.specs.Replay.{ReplayEntry, actions_of, all_met, closing_entries, ending_by, entry_text, expectations_of, final_entries, is_as_expected, is_silent, lines_of}
 use Rattle.mls_cli_replay.specs.RecordedReplies.{IsRecord, IsTextPage, end_texts, reply_texts, words_of_members}
 use Rattle.mls_cli_replay.specs.Reply.{outcome_text}
-use Rattle.mls_cli_replay.specs.Views.{IsPrintoutOn}
+use Rattle.mls_cli_replay.specs.Views.{IsPrintoutOn, IsViewOf}
+use Rattle.mls_cli_replay.specs.declared.view.ReplayView.{ReplayView}
+use Rattle.mls_cli_replay.specs.declared.view.ReplayView.TheVariants as view
 use Rattle.mls_cli_replay.specs.declared.reply.Outcome.{Outcome}
-use Rattle.mls_cli_replay.proofs.Pages.{expects_of, same_actions}
+use Rattle.mls_cli_replay.proofs.Messages.{same_page as same_message}
+use Rattle.mls_cli_replay.proofs.Pages.{expects_of, same_actions, same_page as replayed}
 
 -- a page by outcomes, expectations and the world in the end
 abbrev page_by : List Outcome → List (Option (List ℕ)) → World → Option (List (List ℕ)) → Page ReplayEntry
@@ -53,6 +56,21 @@ one_tree_on : (found : Option Member) (p q : Page (List ℕ)) → IsTreeOn found
 one_tree_on None p q e f = e ∙ sym f
 one_tree_on (Some m) p q e f = one_tree_of m p q e f
 
+-- ---- what was read
+
+actions_same : (r s : RecordedRun) → recording_view r ≡ recording_view s → map recorded_view r.actions.items ≡ map recorded_view s.actions.items
+actions_same r s same = ap (λ (x : Recording). x.actions) same
+
+lines_same : (r s : RecordedRun) → recording_view r ≡ recording_view s → lines_of r ≡ lines_of s
+lines_same r s same = ap (λ (x : Recording). x.final_lines) same
+
+are_one : (asked : ReplayView) (p q : Printout) → p ≡ q → AreOne asked p q
+are_one view.Replies p q e = e
+are_one view.Unmet p q e = e
+are_one (view.Message n) p q e = e
+are_one (view.Tree k) p q e = e
+are_one view.Recording p q e = inl e
+
 module _ (same_run : SameRun) (same_replies : SameReplies) where
   same_page : (c : Crypto) (rs ss : List Recorded) (ls ts : Option (List (List ℕ))) → map recorded_view rs ≡ map recorded_view ss → ls ≡ ts → quiet_page c rs ls ≡ quiet_page c ss ts
   same_page c rs ss ls ts same lines =
@@ -65,31 +83,11 @@ module _ (same_run : SameRun) (same_replies : SameReplies) where
       ∙ ap (λ (x : Option (List (List ℕ))). page_by (outcomes c empty_world (actions_of ss)) (expectations_of ss) (run_all c empty_world (actions_of ss)) x) lines
       ∙ sym (page_is c ss ts)
 
-  one_quiet_on : (c : Crypto) (r : Result Recording ℕ) (p q : Printout) → IsPrintoutOn (λ (x : RecordedRun) (o : Printout). o ≡ printout entry_text (quiet_page_of c x)) r p
-      → IsPrintoutOn (λ (x : RecordedRun) (o : Printout). o ≡ printout entry_text (quiet_page_of c x)) r q → p ≡ q
-  one_quiet_on c (Ok parts) p q (r, is, e) (s, are, f) =
-      let same : recording_view r ≡ recording_view s = is ∙ sym are in
-      e
-      ∙ ap (printout entry_text) (same_page c r.actions.items s.actions.items (lines_of r) (lines_of s) (ap (λ (x : Recording). x.actions) same) (ap (λ (x : Recording). x.final_lines) same))
-      ∙ sym f
-  one_quiet_on c (Err n) p q e f = e ∙ sym f
-
-  pub one_quiet : OneQuiet
-  one_quiet c file p q e f = one_quiet_on c (recording c.number file) p q e f
-
   one_tree_by : (c : Crypto) (k : ℕ) (rs ss : List Recorded) (p q : Printout) → map recorded_view rs ≡ map recorded_view ss → IsTree c k rs p → IsTree c k ss q → p ≡ q
   one_tree_by c k rs ss p q same (a, is, e) (b, are, f) =
       let world = (same_actions same_run same_replies c empty_world rs ss same).1 in
       let there = subst (λ (w : World). IsTreeOn (member_at w k) a) world is in
       e ∙ ap (printout digits_text) (one_tree_on (member_at (run_all c empty_world (actions_of ss)) k) a b there are) ∙ sym f
-
-  one_tree_in : (c : Crypto) (k : ℕ) (r : Result Recording ℕ) (p q : Printout) → IsPrintoutOn (λ (x : RecordedRun) (o : Printout). IsTree c k x.actions.items o) r p
-      → IsPrintoutOn (λ (x : RecordedRun) (o : Printout). IsTree c k x.actions.items o) r q → p ≡ q
-  one_tree_in c k (Ok parts) p q (r, is, e) (s, are, f) = one_tree_by c k r.actions.items s.actions.items p q (ap (λ (x : Recording). x.actions) (is ∙ sym are)) e f
-  one_tree_in c k (Err n) p q e f = e ∙ sym f
-
-  pub one_tree : OneTree
-  one_tree c k file p q e f = one_tree_in c k (recording c.number file) p q e f
 
   one_record_by : (c : Crypto) (file : List ℕ) (rs ss : List Recorded) (p q : Printout) → map recorded_view rs ≡ map recorded_view ss → IsRecord c file rs p → IsRecord c file ss q → ReadAlike p q
   one_record_by c file rs ss p q same (d, is, of_rs) (e, are, of_ss) =
@@ -103,11 +101,23 @@ module _ (same_run : SameRun) (same_replies : SameReplies) where
       ∙ ap (λ (x : Data). record_of (reply_texts c ss) (end_texts c ss) x) data_same in
       inr (record_of (reply_texts c ss) (end_texts c ss) e, subst (λ (x : Data). IsTextPage x p) record_same of_rs, of_ss)
 
-  one_record_in : (c : Crypto) (file : List ℕ) (r : Result Recording ℕ) (p q : Printout) → IsPrintoutOn (λ (x : RecordedRun) (o : Printout). IsRecord c file x.actions.items o) r p
-      → IsPrintoutOn (λ (x : RecordedRun) (o : Printout). IsRecord c file x.actions.items o) r q → ReadAlike p q
-  one_record_in c file (Ok parts) p q (r, is, e) (s, are, f) =
-      one_record_by c file r.actions.items s.actions.items p q (ap (λ (x : Recording). x.actions) (is ∙ sym are)) e f
-  one_record_in c file (Err n) p q e f = inl (e ∙ sym f)
+  -- ---- views
 
-  pub one_record : OneRecord
-  one_record c file p q e f = one_record_in c file (recording c.number file) p q e f
+  one_of_run : (c : Crypto) (asked : ReplayView) (file : List ℕ) (r s : RecordedRun) (p q : Printout) → recording_view r ≡ recording_view s → IsViewOf c asked file r p → IsViewOf c asked file s q
+      → AreOne asked p q
+  one_of_run c view.Replies file r s p q same e f =
+      e ∙ ap (printout entry_text) (replayed same_run same_replies c r.actions.items s.actions.items (lines_of r) (lines_of s) (actions_same r s same) (lines_same r s same)) ∙ sym f
+  one_of_run c view.Unmet file r s p q same e f =
+      e ∙ ap (printout entry_text) (same_page c r.actions.items s.actions.items (lines_of r) (lines_of s) (actions_same r s same) (lines_same r s same)) ∙ sym f
+  one_of_run c (view.Message n) file r s p q same e f =
+      e ∙ ap (printout digits_text) (same_message same_run same_replies c n r.actions.items s.actions.items (actions_same r s same)) ∙ sym f
+  one_of_run c (view.Tree k) file r s p q same e f = one_tree_by c k r.actions.items s.actions.items p q (actions_same r s same) e f
+  one_of_run c view.Recording file r s p q same e f = one_record_by c file r.actions.items s.actions.items p q (actions_same r s same) e f
+
+  one_on : (c : Crypto) (asked : ReplayView) (file : List ℕ) (r : Result Recording ℕ) (p q : Printout) → IsPrintoutOn (IsViewOf c asked file) r p → IsPrintoutOn (IsViewOf c asked file) r q
+      → AreOne asked p q
+  one_on c asked file (Ok parts) p q (r, is, e) (s, are, f) = one_of_run c asked file r s p q (is ∙ sym are) e f
+  one_on c asked file (Err n) p q e f = are_one asked p q (e ∙ sym f)
+
+  pub one_view : OneView
+  one_view c asked file p q e f = one_on c asked file (recording c.number file) p q e f

@@ -1,24 +1,22 @@
 -- Actions that stand for the same calls have one page.
-use Rattle.std.proofs.Common.{◌≡◌, ◌∙◌, ◌&&◌, ℕ, List, [], ◌∷◌, ◌++◌, Option, Result, Ok, Err, map, refl, ap, sym}
+use Rattle.std.proofs.Common.{◌≡◌, ◌∙◌, ◌&&◌, ℕ, List, [], ◌∷◌, ◌++◌, Option, map, refl, ap, sym}
 use Rattle.mls_suite.specs.Crypto.{Crypto}
 use Rattle.mls_model.specs.declared.event.Reply.{Reply}
 use Rattle.mls_model.specs.declared.event.Source.{Source}
 use Rattle.mls_model.specs.World.{World, empty_world}
 use Rattle.mls_model.specs.Run.{replies}
 use Rattle.mls_world_plain.specs.ActiveMembers.{active}
-use Rattle.mls_cli_text.specs.Page.{Page, printout}
-use Rattle.mls_cli_recording.specs.Calls.{Call, MessageSource, Recording, RecordedAction, action_view, call_view, recorded_view, recording_view, source_view}
+use Rattle.mls_cli_text.specs.Page.{Page}
+use Rattle.mls_cli_recording.specs.Calls.{Call, MessageSource, RecordedAction, action_view, call_view, recorded_view, source_view}
 use Rattle.mls_cli_recording.specs.Calls as call
 use Rattle.mls_cli_recording.specs.CallLaws.{SameReplies, SameRun}
-use Rattle.mls_cli_recording.specs.Recording.{recording}
 use Rattle.mls_cli_recording.specs.declared.actions.Action.{Action}
 use Rattle.mls_cli_recording.specs.declared.actions.Action.TheVariants as action
 use Rattle.mls_cli_recording.specs.declared.reading.Recorded.{Recorded}
 use Rattle.mls_cli_replay.specs.Actions.{deliveries, events_in, outcome_in, outcomes, run_all, tally_of, world_after}
-use Rattle.mls_cli_replay.specs.Replay.{IsPageOn, ReplayEntry, actions_of, all_met, closing_entries, ending_by, entry_text, expectation, expectations_of, final_entries, is_as_expected, is_silent, lines_of, outcome_entries, played_entries, played_page}
+use Rattle.mls_cli_replay.specs.Replay.{ReplayEntry, actions_of, all_met, closing_entries, ending_by, expectation, expectations_of, final_entries, is_as_expected, is_silent, outcome_entries, played_entries, played_page}
 use Rattle.mls_cli_replay.specs.declared.reply.Outcome.{Outcome}
 use Rattle.mls_cli_replay.specs.declared.reply.Outcome.TheVariants as outcome
-use Rattle.mls_cli_replay.specs.OneReplay.{OneReplay}
 
 pub expects_of : (rs : List Recorded) → expectations_of rs ≡ map (λ (x : RecordedAction). x.expect) (map recorded_view rs)
 expects_of [] = refl
@@ -83,7 +81,7 @@ module _ (same_run : SameRun) (same_replies : SameReplies) where
         ap (λ (v : World). run_all c v (actions_of rs)) left ∙ rest.1,
       )
 
-  same_page : (c : Crypto) (rs ss : List Recorded) (ls ts : Option (List (List ℕ))) → map recorded_view rs ≡ map recorded_view ss → ls ≡ ts → played_page c rs ls ≡ played_page c ss ts
+  pub same_page : (c : Crypto) (rs ss : List Recorded) (ls ts : Option (List (List ℕ))) → map recorded_view rs ≡ map recorded_view ss → ls ≡ ts → played_page c rs ls ≡ played_page c ss ts
   same_page c rs ss ls ts same lines =
       let both = same_actions c empty_world rs ss same in
       let expects : expectations_of rs ≡ expectations_of ss = expects_of rs ∙ ap (map (λ (x : RecordedAction). x.expect)) same ∙ sym (expects_of ss) in
@@ -93,14 +91,3 @@ module _ (same_run : SameRun) (same_replies : SameReplies) where
       ∙ ap (λ (v : World). page_by (outcomes c empty_world (actions_of ss)) (expectations_of ss) v ls) both.1
       ∙ ap (λ (x : Option (List (List ℕ))). page_by (outcomes c empty_world (actions_of ss)) (expectations_of ss) (run_all c empty_world (actions_of ss)) x) lines
       ∙ sym (page_is c ss ts)
-
-  one_page : (c : Crypto) (r : Result Recording ℕ) (p q : Page ReplayEntry) → IsPageOn c r p → IsPageOn c r q → p ≡ q
-  one_page c (Ok parts) p q (r, is, e) (s, are, f) =
-      let same : recording_view r ≡ recording_view s = is ∙ sym are in
-      e
-      ∙ same_page c r.actions.items s.actions.items (lines_of r) (lines_of s) (ap (λ (x : Recording). x.actions) same) (ap (λ (x : Recording). x.final_lines) same)
-      ∙ sym f
-  one_page c (Err n) p q e f = e ∙ sym f
-
-  pub one_replay : OneReplay
-  one_replay c file p q (a, is, e) (b, are, f) = e ∙ ap (printout entry_text) (one_page c (recording c.number file) a b is are) ∙ sym f

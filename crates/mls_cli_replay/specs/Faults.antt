@@ -75,6 +75,13 @@ abbrev pub StopsBehindRun : {O P : Type 0} → (O → Option (List ℕ)) → O �
 StopsBehindRun contents old new reports told now run result =
     StopsBehindAll contents old new reports told now run.actions.items result
 
+-- where such a call fails, by the view that is asked for
+abbrev pub StopsAsked : {O P : Type 0} → (O → Option (List ℕ)) → O → O → (P → P → ℕ → ℕ → Type 0) →
+    P → P → Crypto → ReplayView → RecordedRun → Result ℕ Fault → Type 0
+StopsAsked contents old new reports told now c asked run result =
+    IfErr result (λ (e : Fault).
+    StopsView reports c asked run.actions.items told now (contents old) (contents new) e)
+
 -- where a call on a file fails, of which this view is asked for
 abbrev pub StopsFile : {O P : Type 0} → (O → Option (List ℕ)) → O → O → (P → P → ℕ → ℕ → Type 0) →
     P → P → Crypto → ReplayView → List ℕ → Result ℕ Fault → Type 0

@@ -3,10 +3,8 @@ pub mod Actions
 pub mod Progress
 pub mod Replay
 pub mod ReplayLaws
-pub mod OneReplay
 pub mod Message
 pub mod DigitsLaws
-pub mod OneMessage
 pub mod Quiet
 pub mod MemberTree
 pub mod TreeLaws

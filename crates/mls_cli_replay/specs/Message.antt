@@ -28,19 +28,6 @@ page_on None = refused 94
 unfoldable pub message_page : Crypto → ℕ → List Recorded → Page (List ℕ)
 message_page c n rs = page_on (slice_get (run_all c empty_world (actions_of rs)).messages n)
 
--- the page of a recording: of what was read of it; or its refusal
-abbrev pub IsPageOn : Crypto → ℕ → Result Recording ℕ → Page (List ℕ) → Type 0
-IsPageOn c n (Ok parts) page =
-    (recorded : RecordedRun) × (recording_view recorded ≡ parts)
-    × (page ≡ message_page c n recorded.actions.items)
-IsPageOn c n (Err number) page = page ≡ refused number
-
--- what is printed of message n of a file, which has to be a recording for the suite
-abbrev pub IsMessage : Crypto → ℕ → List ℕ → Printout → Type 0
-IsMessage c n file p =
-    (page : Page (List ℕ)) × IsPageOn c n (recording c.number file) page
-    × (p ≡ printout digits_text page)
-
 -- ---- of the code's ends
 
 -- Where there is memory for it, the page of a message, or of its refusal, is made.
@@ -54,9 +41,3 @@ abbrev pub PrintsFound : {O : Type 0} → (O → Option (List ℕ)) → O → O 
     List Recorded → Result ℕ Fault → Type 0
 PrintsFound contents old new c n rs result =
     Prints (contents old) (contents new) result (printout digits_text (message_page c n rs))
-
--- a message of a file is printed
-abbrev pub PrintsMessage : {O : Type 0} → (O → Option (List ℕ)) → O → O → Crypto → ℕ → List ℕ →
-    Result ℕ Fault → Type 0
-PrintsMessage contents old new c n file result =
-    PrintsOne (IsMessage c n file) (contents old) (contents new) result

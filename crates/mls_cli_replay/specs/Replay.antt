@@ -195,19 +195,6 @@ played_page c rs lines = record {
 abbrev pub page_of_run : Crypto → RecordedRun → Page ReplayEntry
 page_of_run c r = played_page c r.actions.items (lines_of r)
 
--- the page of a recording: of what was read of it; or its refusal
-abbrev pub IsPageOn : Crypto → Result Recording ℕ → Page ReplayEntry → Type 0
-IsPageOn c (Ok parts) page =
-    (recorded : RecordedRun) × (recording_view recorded ≡ parts)
-    × (page ≡ page_of_run c recorded)
-IsPageOn c (Err n) page = page ≡ refused n
-
--- what is printed for a file, which has to be a recording for the suite
-abbrev pub IsReplay : Crypto → List ℕ → Printout → Type 0
-IsReplay c file p =
-    (page : Page ReplayEntry) × IsPageOn c (recording c.number file) page
-    × (p ≡ printout entry_text page)
-
 -- the printout of a file that isn't read; there is none where memory was refused
 abbrev pub IsRefusal : JsonError → Printout → Type 0
 IsRefusal error.OutOfMemory p = ⊥
@@ -396,9 +383,3 @@ abbrev pub PrintsRefusal : {O : Type 0} → (O → Option (List ℕ)) → O → 
     Type 0
 PrintsRefusal contents old new number result =
     Prints (contents old) (contents new) result (printout entry_text (refused number))
-
--- a replay of a file is printed
-abbrev pub PrintsReplay : {O : Type 0} → (O → Option (List ℕ)) → O → O → Crypto → List ℕ →
-    Result ℕ Fault → Type 0
-PrintsReplay contents old new c file result =
-    PrintsOne (IsReplay c file) (contents old) (contents new) result

@@ -21,15 +21,12 @@ ghost use Rattle.mls_cli_text.specs.Page.{ending_status};
 ghost use Rattle.mls_cli_json.specs.Faults.{number_of};
 ghost use Rattle.mls_cli_recording.specs.Calls.{recording_view};
 ghost use Rattle.mls_cli_recording.specs.Recording.{recording};
-ghost use Rattle.mls_cli_replay.specs.Faults.{StopsBehindRun, StopsFile, StopsRun, StopsUnread};
-ghost use Rattle.mls_cli_replay.specs.Message.{PrintsMessage};
-ghost use Rattle.mls_cli_replay.specs.OneMessage.{OneMessage};
-ghost use Rattle.mls_cli_replay.specs.OneReplay.{OneReplay};
-ghost use Rattle.mls_cli_replay.specs.OneView.{OneQuiet, OneRecord, OneTree};
+ghost use Rattle.mls_cli_replay.specs.Faults.{StopsAsked, StopsBehindRun, StopsFile, StopsRun, StopsUnread};
+ghost use Rattle.mls_cli_replay.specs.OneView.{OneView};
 ghost use Rattle.mls_cli_replay.specs.Progress.{ReportsFile, ReportsRun};
 ghost use Rattle.mls_cli_replay.specs.RecordedReplies.{PrintsRecord};
-ghost use Rattle.mls_cli_replay.specs.Views.{PrintsMemberTree, PrintsRecorded, PrintsUnmet, PrintsView};
-ghost use Rattle.mls_cli_replay.specs.Replay.{IsRefusal, PrintsOne, PrintsPlay, PrintsRefusal, PrintsReplay, ending_by};
+ghost use Rattle.mls_cli_replay.specs.Replay.{IsRefusal, PrintsOne, PrintsPlay, PrintsRefusal, ending_by};
+ghost use Rattle.mls_cli_replay.specs.Views.{PrintsRun, PrintsView};
 
 use actions::play_actions;
 pub use deliveries::Tally;
@@ -121,142 +118,6 @@ fn recording_for<S: Suite>(alloc: Global, file: &[u8]) -> Result<RecordedRun, Js
     recording(alloc, S::NUMBER, file)
 }
 
-/// Prints the replay of a recording for the suite, or the refusal of the file (`BadJson` (9), `NotHex` (8)), and answers
-/// the exit status. The whole file is read before the first action begins, and each action's lines are printed before
-/// the next one begins, so that after a failed write no further one does.
-pub fn replay<S: Suite, O: Output>(alloc: Global, file: &[u8], out: &mut O) -> Result<u8, Fault>
-    // The output grows by the replay's text, or on a fault by less than that.
-    ensures prints { PrintsReplay O.contents out.old out.new S.crypto file.now result }
-    ensures status { IfOk result (λ status. status ≤ 1) }
-    // A fault of the output comes exactly when a write fails.
-    ensures fault { O.failed out.new ≡ write_failed (O.failed out.old) result }
-    ensures written { IfErr result (λ e. e ≢ Fault.Read) }
-{
-    print_replay::<S, O, Silent>(alloc, file, out, &mut Silent)
-}
-
-/// Prints the replay of a recording as `replay` does, and reports each action as done.
-fn print_replay<S: Suite, O: Output, P: Progress>(
-    alloc: Global,
-    file: &[u8],
-    out: &mut O,
-    progress: &mut P,
-) -> Result<u8, Fault>
-    ensures prints { PrintsReplay O.contents out.old out.new S.crypto file.now result }
-    ensures status { IfOk result (λ status. status ≤ 1) }
-    ensures fault { O.failed out.new ≡ write_failed (O.failed out.old) result }
-    ensures written { IfErr result (λ e. e ≢ Fault.Read) }
-    ensures reports { ReportsFile P.reports S.crypto file.now progress.old progress.new result }
-    ensures cut { StopsFile O.contents out.old out.new P.reports progress.old progress.new
-        S.crypto ReplayView.Replies file.now result }
-{
-    match recording_for::<S>(alloc, file) {
-        Ok(recorded) => play::<S, O, P>(alloc, &recorded, out, progress),
-        Err(error) => print_error(alloc, error, out),
-    }
-}
-
-/// Prints the message that has this number when all actions of a recording for the suite are done, in hex digits, and
-/// answers the exit status; or the refusal of the file (`BadJson` (9), `NotHex` (8)), or that there is no such message
-/// (`NoSuchMessage` (94)). Nothing is compared with what is expected. Each action is reported as done.
-pub fn replay_message<S: Suite, O: Output, P: Progress>(
-    alloc: Global,
-    file: &[u8],
-    number: usize,
-    out: &mut O,
-    progress: &mut P,
-) -> Result<u8, Fault>
-    // The output grows by the message's text, or on a fault by less than that.
-    ensures prints { PrintsMessage O.contents out.old out.new S.crypto number file.now result }
-    ensures status { IfOk result (λ status. status ≤ 1) }
-    // A fault of the output comes exactly when a write fails.
-    ensures fault { O.failed out.new ≡ write_failed (O.failed out.old) result }
-    ensures written { IfErr result (λ e. e ≢ Fault.Read) }
-    ensures reports { ReportsFile P.reports S.crypto file.now progress.old progress.new result }
-    ensures cut { StopsFile O.contents out.old out.new P.reports progress.old progress.new
-        S.crypto (ReplayView.Message number) file.now result }
-{
-    match recording_for::<S>(alloc, file) {
-        Ok(recorded) => {
-            print_message::<S, O, P>(alloc, recorded.actions.as_slice(), number, out, progress)
-        }
-        Err(error) => print_error(alloc, error, out),
-    }
-}
-
-/// Prints what of the replay of a recording for the suite isn't as expected: each action whose text is another, then
-/// all that the replay ends with; or the refusal of the file (`BadJson` (9), `NotHex` (8)). It answers the exit status,
-/// which is that of the replay. All actions are done, and each is reported, before anything is printed.
-pub fn replay_quietly<S: Suite, O: Output, P: Progress>(
-    alloc: Global,
-    file: &[u8],
-    out: &mut O,
-    progress: &mut P,
-) -> Result<u8, Fault>
-    ensures prints { PrintsUnmet O.contents out.old out.new S.crypto file.now result }
-    ensures status { IfOk result (λ status. status ≤ 1) }
-    ensures fault { O.failed out.new ≡ write_failed (O.failed out.old) result }
-    ensures written { IfErr result (λ e. e ≢ Fault.Read) }
-    ensures reports { ReportsFile P.reports S.crypto file.now progress.old progress.new result }
-    ensures cut { StopsFile O.contents out.old out.new P.reports progress.old progress.new
-        S.crypto ReplayView.Unmet file.now result }
-{
-    match recording_for::<S>(alloc, file) {
-        Ok(recorded) => play_quietly::<S, O, P>(alloc, &recorded, out, progress),
-        Err(error) => print_error(alloc, error, out),
-    }
-}
-
-/// Prints the ratchet tree of the member that has this number when all actions of a recording for the suite are done,
-/// in hex digits, and answers the exit status; or the refusal of the file (`BadJson` (9), `NotHex` (8)), or that there
-/// is no such member (`NoSuchMember` (90)), that it was removed (`Gone` (40)), or that the tree is too long (`TooLong`
-/// (6)). Nothing is compared with what is expected. Each action is reported as done.
-pub fn replay_tree<S: Suite, O: Output, P: Progress>(
-    alloc: Global,
-    file: &[u8],
-    number: usize,
-    out: &mut O,
-    progress: &mut P,
-) -> Result<u8, Fault>
-    ensures prints { PrintsMemberTree O.contents out.old out.new S.crypto number file.now result }
-    ensures status { IfOk result (λ status. status ≤ 1) }
-    ensures fault { O.failed out.new ≡ write_failed (O.failed out.old) result }
-    ensures written { IfErr result (λ e. e ≢ Fault.Read) }
-    ensures reports { ReportsFile P.reports S.crypto file.now progress.old progress.new result }
-    ensures cut { StopsFile O.contents out.old out.new P.reports progress.old progress.new
-        S.crypto (ReplayView.Tree number) file.now result }
-{
-    match recording_for::<S>(alloc, file) {
-        Ok(recorded) => {
-            print_tree::<S, O, P>(alloc, recorded.actions.as_slice(), number, out, progress)
-        }
-        Err(error) => print_error(alloc, error, out),
-    }
-}
-
-/// Prints a recording for the suite again, where each action expects the reply that it has now, and in version 2 the
-/// lines of members in the end are those of now; or the refusal of the file (`BadJson` (9), `NotHex` (8)). It answers
-/// the exit status. All actions are done, and each is reported, before anything is printed.
-pub fn replay_record<S: Suite, O: Output, P: Progress>(
-    alloc: Global,
-    file: &[u8],
-    out: &mut O,
-    progress: &mut P,
-) -> Result<u8, Fault>
-    ensures prints { PrintsRecorded O.contents out.old out.new S.crypto file.now result }
-    ensures status { IfOk result (λ status. status ≤ 1) }
-    ensures fault { O.failed out.new ≡ write_failed (O.failed out.old) result }
-    ensures written { IfErr result (λ e. e ≢ Fault.Read) }
-    ensures reports { ReportsFile P.reports S.crypto file.now progress.old progress.new result }
-    ensures cut { StopsFile O.contents out.old out.new P.reports progress.old progress.new
-        S.crypto ReplayView.Recording file.now result }
-{
-    match recording_for::<S>(alloc, file) {
-        Ok(recorded) => record_again::<S, O, P>(alloc, file, &recorded, out, progress),
-        Err(error) => print_error(alloc, error, out),
-    }
-}
-
 /// Prints a recording again, of which this was read, and reports each action as done.
 fn record_again<S: Suite, O: Output, P: Progress>(
     alloc: Global,
@@ -282,7 +143,39 @@ fn record_again<S: Suite, O: Output, P: Progress>(
     }
 }
 
-/// Prints such a view of a recording for the suite, reports each action as done, and answers the exit status.
+/// Prints such a view of a recording, of which this was read, reports each action as done, and answers the exit status.
+fn print_run<S: Suite, O: Output, P: Progress>(
+    alloc: Global,
+    file: &[u8],
+    recorded: &RecordedRun,
+    view: ReplayView,
+    out: &mut O,
+    progress: &mut P,
+) -> Result<u8, Fault>
+    ensures prints { PrintsRun O.contents out.old out.new S.crypto view file.now recorded.now result }
+    ensures status { IfOk result (λ status. status ≤ 1) }
+    ensures fault { O.failed out.new ≡ write_failed (O.failed out.old) result }
+    ensures written { IfErr result (λ e. e ≢ Fault.Read) }
+    ensures reports { ReportsRun P.reports recorded.now progress.old progress.new result }
+    ensures cut { StopsAsked O.contents out.old out.new P.reports progress.old progress.new
+        S.crypto view recorded.now result }
+{
+    let actions = recorded.actions.as_slice();
+    match view {
+        ReplayView::Replies => play::<S, O, P>(alloc, recorded, out, progress),
+        ReplayView::Unmet => play_quietly::<S, O, P>(alloc, recorded, out, progress),
+        ReplayView::Message(number) => {
+            print_message::<S, O, P>(alloc, actions, number, out, progress)
+        }
+        ReplayView::Tree(number) => print_tree::<S, O, P>(alloc, actions, number, out, progress),
+        ReplayView::Recording => record_again::<S, O, P>(alloc, file, recorded, out, progress),
+    }
+}
+
+/// Prints such a view of a recording for the suite, or the refusal of the file (`BadJson` (9), `NotHex` (8)), reports
+/// each action as done, and answers the exit status. The whole file is read before the first action begins. A message
+/// that isn't there is refused by `NoSuchMessage` (94), a member's tree by `NoSuchMember` (90) or `Gone` (40), or by
+/// `TooLong` (6).
 pub fn print_view<S: Suite, O: Output, P: Progress>(
     alloc: Global,
     file: &[u8],
@@ -303,26 +196,15 @@ pub fn print_view<S: Suite, O: Output, P: Progress>(
     ensures cut { StopsFile O.contents out.old out.new P.reports progress.old progress.new
         S.crypto view file.now result }
 {
-    match view {
-        ReplayView::Replies => print_replay::<S, O, P>(alloc, file, out, progress),
-        ReplayView::Unmet => replay_quietly::<S, O, P>(alloc, file, out, progress),
-        ReplayView::Message(number) => {
-            replay_message::<S, O, P>(alloc, file, number, out, progress)
-        }
-        ReplayView::Tree(number) => replay_tree::<S, O, P>(alloc, file, number, out, progress),
-        ReplayView::Recording => replay_record::<S, O, P>(alloc, file, out, progress),
+    match recording_for::<S>(alloc, file) {
+        Ok(recorded) => print_run::<S, O, P>(alloc, file, &recorded, view, out, progress),
+        Err(error) => print_error(alloc, error, out),
     }
 }
 
-/// A file has one replay at most, so the one that `replay` prints is the one that it has, and so has each of its
-/// messages, its quiet replay and each member's tree. Texts of it with what it came to are of one JSON. The function
-/// does nothing.
+/// What is printed of a file is one text, and a recording again is of one JSON. The function does nothing.
 pub fn laws_of_replays()
-    ensures one { OneReplay }
-    ensures message { OneMessage }
-    ensures quiet { OneQuiet }
-    ensures tree { OneTree }
-    ensures record_texts { OneRecord }
+    ensures { OneView }
 {
     laws_of_calls();
 }

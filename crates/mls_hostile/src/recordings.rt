@@ -2,7 +2,7 @@
 //! definitions and written by hand before that.
 
 use anyhow::{Result, bail};
-use mls_cli_replay::replay;
+use mls_cli_replay::{ReplayView, Silent, print_view};
 use mls_suite::Glass;
 use std::alloc::Global;
 use std::fs;
@@ -24,7 +24,8 @@ pub const NAMES: [&str; 10] = [
 /// What a recording prints, and its status.
 fn replay_recording(alloc: Global, recording: &[u8]) -> Result<(u8, Vec<u8>)> {
     let mut page = Vec::new(alloc);
-    match replay::<Glass, Vec<u8>>(alloc, recording, &mut page) {
+    let view = ReplayView::Replies;
+    match print_view::<Glass, Vec<u8>, Silent>(alloc, recording, view, &mut page, &mut Silent) {
         Ok(status) => Ok((status, page)),
         Err(_) => bail!("out of memory"),
     }

@@ -11,10 +11,14 @@ use Rattle.mls_tree_model.specs.Arrays.{term_of, in_order}
 use Rattle.mls_tree_model.specs.Good.{has_distinct_keys, has_distinct_clients}
 use Rattle.mls_tree_index.specs.declared.kind.KeyKind.TheVariants.{Encryption, Signature}
 use Rattle.mls_tree_index.specs.Keys.{key_of, keys_of}
+use Rattle.mls_tree_index.specs.Order.{IsPart}
 use Rattle.mls_tree_array.specs.Standing.{Stands}
 use Rattle.mls_tree_array.specs.CellKeys.{cell_keys}
 use Rattle.mls_tree_array.proofs.Gathered.{cell_signature}
 use Rattle.mls_tree_array.proofs.GatheredLaws.{gather-in_order, keys_standing, signatures_standing}
+
+pub part_of_itself : (f : ℕ → Option (List ℕ)) → IsPart f f
+part_of_itself f x some = refl
 
 -- a cell's key, by its kind
 encryption_key : (c : Option Node) → option_to_list (key_of Encryption c) ≡ cell_keys c

@@ -10,6 +10,7 @@ pub mod ColdNodes
 pub mod Bounds
 pub mod Way
 pub mod IndexedKeys
+pub mod HeldKeys
 pub mod PreparedPath
 pub mod PathDraft
 pub mod PathMerging

@@ -17,6 +17,7 @@ ghost use Rattle.mls_tree_array.specs.Standing.{Stands};
 ghost use Rattle.mls_tree_array.specs.CellKeys.{cell_keys};
 ghost use Rattle.mls_tree_array.specs.RightLists.{AllRise};
 ghost use Rattle.mls_tree.specs.ColdNodes.{Warms};
+ghost use Rattle.mls_tree.specs.HeldKeys.{has_client, has_key};
 ghost use Rattle.mls_tree.specs.IndexedKeys.{AreIndexes};
 ghost use Rattle.mls_tree.specs.Refusals.{Refuses};
 ghost use Rattle.mls_tree.specs.ShortLeaves.{HasShortLeaves};
@@ -224,5 +225,19 @@ impl PublicTree {
         ensures { result ≡ has_distinct_clients (term self.now) }
     {
         self.indexes.has_distinct_clients()
+    }
+
+    /// Whether a node has this encryption key (RFC 9420, 7.3).
+    pub fn has_key(&self, key: &[u8]) -> bool
+        ensures { result ≡ has_key (term self.now) key.now }
+    {
+        self.indexes.has_key(&self.cells, key)
+    }
+
+    /// Whether a member is the client with this signature key (RFC 9420, 7.3).
+    pub fn has_client(&self, key: &[u8]) -> bool
+        ensures { result ≡ has_client (term self.now) key.now }
+    {
+        self.indexes.has_client(&self.cells, key)
     }
 }

@@ -3,6 +3,7 @@
 ghost use Rattle.std.specs.Prelude.{◌≡◌, ℕ, ◌+◌, ◌*◌, ◌≤◌, ◌^◌, nat_eq, true, take, length, IfOk, OnOk};
 ghost use Rattle.mls_tree_model.specs.Sets.{is_distinct};
 ghost use Rattle.mls_tree_model.specs.Good.{has_distinct_keys, has_distinct_clients};
+ghost use Rattle.mls_tree.specs.HeldKeys.{TellsOfKey, has_client, has_key};
 ghost use Rattle.mls_tree.specs.IndexedKeys.{AreIndexes, AreBeside, AreOwn, StayOwn, HaveRoom, LeavesRoom, AreSame, KeepsIndexes, EntersNode, LeavesNodes, EntersNodes, AnswersTest};
 
 use mls_tree_cells::Cells;
@@ -138,6 +139,20 @@ impl KeyIndexes {
         ensures { AnswersTest has_distinct_clients self.now result }
     {
         self.clients.are_distinct()
+    }
+
+    /// Whether a node has this encryption key.
+    pub(crate) fn has_key(&self, cells: &Cells, key: &[u8]) -> bool
+        ensures { TellsOfKey has_key cells.now.nodes key.now self.now result }
+    {
+        self.keys.holds(cells, key)
+    }
+
+    /// Whether a member has this signature key.
+    pub(crate) fn has_client(&self, cells: &Cells, key: &[u8]) -> bool
+        ensures { TellsOfKey has_client cells.now.nodes key.now self.now result }
+    {
+        self.clients.holds(cells, key)
     }
 }
 
