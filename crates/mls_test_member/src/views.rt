@@ -1,5 +1,6 @@
 //! What a member shows to an application: who is in the group, what it keeps, and kinds of refusals.
 
+use mls_candidate::Candidate;
 use mls_leaf::Proposal;
 use mls_member::{KeptCommit, KeptProposal, Member, Refusal, RefusalKind, message_sender};
 use mls_suite::Glass;
@@ -171,8 +172,12 @@ fn what_a_message_would_do(rt: HostRuntime) -> Result<(), Fail> {
 }
 
 /// A member's commit of what it keeps, in a box.
-fn kept(alloc: Global, member: &mut Member<Glass>) -> Result<Box<KeptCommit>, Refusal> {
-    let kept = member.commit_kept(false, &[8; 32])?;
+fn kept(
+    alloc: Global,
+    member: &mut Member<Glass>,
+    seed: u8,
+) -> Result<Box<KeptCommit>, Refusal> {
+    let kept = member.commit_kept(false, &[seed; 32])?;
     Ok(Box::new(alloc, kept)?)
 }
 
@@ -195,7 +200,7 @@ fn propose_both(pair: &mut Pair<Glass>) -> Result<Vec<u8>, Refusal> {
 /// Both propose updates, and the first commits what it keeps. Whether it leaves out its own alone, and the second follows.
 fn commit_kept(alloc: Global, pair: &mut Pair<Glass>) -> Result<bool, Refusal> {
     let own = propose_both(pair)?;
-    let kept = kept(alloc, &mut pair.first)?;
+    let kept = kept(alloc, &mut pair.first, 8)?;
     let is_own = leaves_out(&pair.first, &kept, &own);
     process(&mut pair.second, &kept.made.commit)?;
     Ok(is_own && message_sender(&kept.made.commit) == Some(0))
@@ -206,5 +211,59 @@ fn what_goes_together(rt: HostRuntime) -> Result<(), Fail> {
     let mut pair = new_pair(rt.alloc())?;
     assert!(rt; commit_kept(rt.alloc(), &mut pair)?);
     assert_eq!(rt; pair.second.epoch(), 3);
+    Ok(())
+}
+
+/// The candidate that the second was.
+fn second_again(alloc: Global) -> Result<Box<Candidate<Glass>>, Refusal> {
+    let candidate = Candidate::new(alloc, b"bob", &SEEDS.bob)?;
+    Ok(Box::new(alloc, candidate)?)
+}
+
+/// A member proposes to add the second, who is there.
+fn offer_again(alloc: Global, member: &mut Member<Glass>) -> Result<Vec<u8>, Refusal> {
+    let candidate = second_again(alloc)?;
+    member.propose_add(candidate.key_package())
+}
+
+/// The first proposes to add the second, and commits what it keeps. Whether it leaves out that addition alone.
+fn leaves_out_offer(alloc: Global, pair: &mut Pair<Glass>) -> Result<bool, Refusal> {
+    let offer = offer_again(alloc, &mut pair.first)?;
+    let kept = kept(alloc, &mut pair.first, 8)?;
+    process(&mut pair.second, &kept.made.commit)?;
+    Ok(leaves_out(&pair.first, &kept, &offer) && kept.made.welcome.is_none())
+}
+
+#[test]
+fn who_is_there_is_not_added(rt: HostRuntime) -> Result<(), Fail> {
+    let mut pair = new_pair(rt.alloc())?;
+    assert!(rt; leaves_out_offer(rt.alloc(), &mut pair)?);
+    assert_eq!(rt; pair.second.epoch(), 3);
+    Ok(())
+}
+
+/// The first takes the second's update of its leaf into a commit, so that the leaf hasn't the key of the candidate that the
+/// second was.
+fn renew_second(alloc: Global, pair: &mut Pair<Glass>) -> Result<(), Refusal> {
+    let update = update(&mut pair.second, 7)?;
+    process(&mut pair.first, &update)?;
+    let kept = kept(alloc, &mut pair.first, 8)?;
+    process(&mut pair.first, &kept.made.commit)
+}
+
+/// The first proposes to remove the second and to add it anew, and commits what it keeps. How many it leaves out, and
+/// whether somebody is welcome.
+fn readmit(alloc: Global, pair: &mut Pair<Glass>) -> Result<(usize, bool), Refusal> {
+    renew_second(alloc, pair)?;
+    let _removal = pair.first.propose_remove(1)?;
+    let _offer = offer_again(alloc, &mut pair.first)?;
+    let kept = kept(alloc, &mut pair.first, 9)?;
+    Ok((kept.left_out.len(), kept.made.welcome.is_some()))
+}
+
+#[test]
+fn who_is_removed_is_added_again(rt: HostRuntime) -> Result<(), Fail> {
+    let mut pair = new_pair(rt.alloc())?;
+    assert_eq!(rt; readmit(rt.alloc(), &mut pair)?, (0, true));
     Ok(())
 }
