@@ -3,7 +3,7 @@
 ghost use Rattle.std.specs.Prelude.{◌≡◌, IfOk, option_map};
 ghost use Rattle.std.specs.Str.{bytes_eq};
 ghost use Rattle.serde_json.specs.View.{view, items_view};
-ghost use Rattle.mls_cli_recording.specs.Recording.{has_parts, is_version, recording, suite_text};
+ghost use Rattle.mls_cli_recording.specs.Recording.{recording, suite_text};
 ghost use Rattle.mls_cli_json_place.specs.Events.{event_wrong};
 ghost use Rattle.mls_cli_json_place.specs.Faults.{TellsBadJson, spots};
 ghost use Rattle.mls_cli_json_place.specs.Lists.{first_wrong};
@@ -16,7 +16,8 @@ use crate::lists::{Entry, first_wrong};
 use crate::place::{JsonPlace, Wrong};
 use crate::shapes::has_final_lines;
 use crate::value::value_or_stop;
-use mls_cli_json::{has_members, items_at, text_at, u64_at};
+use mls_cli_json::{items_at, text_at, u64_at};
+use mls_cli_recording::{has_parts, is_version, suite_text};
 use serde_json::Value;
 use std::alloc::{AllocError, Global};
 
@@ -45,30 +46,11 @@ fn event_place(version: u64, values: &[Value]) -> Option<JsonPlace>
     }
 }
 
-/// Whether recordings of this version are read.
-fn is_version(version: u64) -> bool
-    ensures { result ≡ is_version version }
-{
-    version == 1 || version == 2
-}
-
-/// Whether a recording of this version has all of its parts, and no other.
-fn has_parts(value: &Value, version: u64) -> bool
-    ensures { result ≡ has_parts version (view value.now) }
-{
-    if version == 2 && value.get("final").is_some() {
-        has_members(value, 4)
-    } else {
-        has_members(value, 3)
-    }
-}
-
 /// Whether a text is a suite's number in four hex digits.
 fn is_suite(alloc: Global, text: &str, number: u16) -> Result<bool, AllocError>
     ensures { IfOk result (λ same. same ≡ bytes_eq text.now (suite_text number)) }
 {
-    let pair = [(number / 256) as u8, (number % 256) as u8];
-    let wanted = hex::encode(alloc, pair.as_slice())?;
+    let wanted = suite_text(alloc, number)?;
     Ok(text == wanted.as_str())
 }
 

@@ -13,7 +13,7 @@ mod sources;
 ghost use Rattle.mls_cli_recording.specs.CallLaws.{SameReplies, SameRun};
 
 pub use actions::Action;
-pub use reading::{Recorded, RecordedRun, recording};
+pub use reading::{Recorded, RecordedRun, has_parts, is_version, recording, suite_text};
 
 /// Events that stand for the same calls leave the same world and have the same replies, so what a recording does
 /// follows from its text. The function does nothing.

@@ -95,7 +95,7 @@ fn final_lines_in(alloc: Global, value: &Value) -> Result<Option<Vec<String>>, J
 }
 
 /// Whether recordings of this version are read.
-fn is_version(version: u64) -> bool
+pub fn is_version(version: u64) -> bool
     ensures { result ≡ is_version version }
 {
     version == 1 || version == 2
@@ -103,7 +103,7 @@ fn is_version(version: u64) -> bool
 
 /// Whether a recording of this version has all of its parts, and no other: in version 2 the lines in the end may stand
 /// beside the others.
-fn has_parts(value: &Value, version: u64) -> bool
+pub fn has_parts(value: &Value, version: u64) -> bool
     ensures { result ≡ has_parts version (view value.now) }
 {
     if version == 2 && value.get("final").is_some() {
@@ -114,7 +114,7 @@ fn has_parts(value: &Value, version: u64) -> bool
 }
 
 /// A suite's number in four hex digits.
-fn suite_text(alloc: Global, number: u16) -> Result<String, AllocError>
+pub fn suite_text(alloc: Global, number: u16) -> Result<String, AllocError>
     ensures { IfOk result (λ text. string_bytes text ≡ suite_text number) }
 {
     let pair = [(number / 256) as u8, (number % 256) as u8];

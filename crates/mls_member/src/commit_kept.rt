@@ -134,6 +134,20 @@ fn any_adds(kept: &[KeptProposal], key: &[u8]) -> bool
     kept.iter().any(|one| adds(one, key))
 }
 
+/// Whether one of the kept proposals removes the client with a signature key, where that isn't the member at leaf `me`.
+fn any_makes_room(kept: &[KeptProposal], me: u32, tree: &PublicTree, key: &[u8]) -> bool
+    ensures { result ≡ list_any (makes_room me (term tree.now) key.now) kept.now }
+{
+    kept.iter().any(|one| makes_room(one, me, tree, key))
+}
+
+/// Whether one of the kept proposals brings an encryption key into the tree.
+fn any_brings(kept: &[KeptProposal], key: &[u8]) -> bool
+    ensures { result ≡ list_any (brings key.now) kept.now }
+{
+    kept.iter().any(|one| brings(one, key))
+}
+
 /// Whether one of the kept proposals has extensions for the group.
 fn any_sets_extensions(kept: &[KeptProposal]) -> bool
     ensures { result ≡ list_any sets_extensions kept.now }
@@ -145,14 +159,14 @@ fn any_sets_extensions(kept: &[KeptProposal]) -> bool
 fn is_staying(me: u32, tree: &PublicTree, all: &[KeptProposal], key: &[u8]) -> bool
     ensures { result ≡ is_staying me (term tree.now) all.now key.now }
 {
-    tree.has_client(key) && !all.iter().any(|one| makes_room(one, me, tree, key))
+    tree.has_client(key) && !any_makes_room(all, me, tree, key)
 }
 
 /// Whether an encryption key is in the tree, or a later kept proposal brings it.
 fn is_taken(tree: &PublicTree, later: &[KeptProposal], key: &[u8]) -> bool
     ensures { result ≡ is_taken (term tree.now) later.now key.now }
 {
-    tree.has_key(key) || later.iter().any(|one| brings(one, key))
+    tree.has_key(key) || any_brings(later, key)
 }
 
 /// Whether the member at leaf `me` leaves out a kept proposal, behind which stand later ones (RFC 9420, 12.2).

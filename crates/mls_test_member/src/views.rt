@@ -172,11 +172,7 @@ fn what_a_message_would_do(rt: HostRuntime) -> Result<(), Fail> {
 }
 
 /// A member's commit of what it keeps, in a box.
-fn kept(
-    alloc: Global,
-    member: &mut Member<Glass>,
-    seed: u8,
-) -> Result<Box<KeptCommit>, Refusal> {
+fn kept(alloc: Global, member: &mut Member<Glass>, seed: u8) -> Result<Box<KeptCommit>, Refusal> {
     let kept = member.commit_kept(false, &[seed; 32])?;
     Ok(Box::new(alloc, kept)?)
 }
