@@ -20,6 +20,7 @@ const NO_SUBCOMMAND: &str =
 /// What it says of options that exclude one another.
 const BOTH: &str = "the argument '--explain <REFUSAL>' cannot be used with a subcommand";
 
+/// The option `--explain`, which no subcommand has.
 pub fn explain_arg<'a>(alloc: Global) -> Arg<'a>
     ensures rule { rule_of result ≡ explain_rule }
     ensures local { result.global ≡ false }

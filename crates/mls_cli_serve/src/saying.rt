@@ -25,6 +25,7 @@ pub fn say_fault<E: Write>(fault: Fault, file: &str, err: &mut Out<E>)
     }
 }
 
+/// Says that there is no memory, unless the errors fail.
 pub fn say_out_of_memory<E: Write>(err: &mut Out<E>)
     ensures { Says E.contents err.old err.new memory_text }
 {

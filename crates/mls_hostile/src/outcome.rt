@@ -83,6 +83,7 @@ pub struct Runs {
 }
 
 impl Runs {
+    /// No place.
     pub fn new(alloc: Global) -> Runs {
         Runs {
             runs: Vec::new(alloc),
@@ -105,6 +106,7 @@ impl Runs {
         Ok(())
     }
 
+    /// Runs of places with one outcome, in order.
     pub fn as_slice(&self) -> &[Run] {
         self.runs.as_slice()
     }
@@ -119,6 +121,7 @@ pub struct Tally {
 }
 
 impl Tally {
+    /// Nothing answered.
     pub fn new(alloc: Global) -> Result<Tally, AllocError> {
         let refused = vec![in alloc; 0; 256]?;
         Ok(Tally {
@@ -128,6 +131,7 @@ impl Tally {
         })
     }
 
+    /// What other bytes are answered.
     pub fn add(&mut self, outcome: Outcome) {
         match outcome {
             Outcome::Refused(number) => {
@@ -153,6 +157,7 @@ impl Tally {
         self.places.as_slice()
     }
 
+    /// How often bytes were taken.
     pub fn taken_count(&self) -> u64 {
         self.taken
     }

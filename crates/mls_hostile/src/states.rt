@@ -25,6 +25,7 @@ impl Group {
         })
     }
 
+    /// The group in which these acts were done, with the messages that they left.
     pub fn of(alloc: Global, acts: Vec<Act>) -> Result<Group> {
         let stage = Stage::after(alloc, &acts, acts.len())?;
         Group::with(alloc, acts, &stage)

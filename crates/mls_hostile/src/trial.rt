@@ -15,6 +15,7 @@ pub struct Trial<'a> {
 }
 
 impl<'a> Trial<'a> {
+    /// The state, on a stage of its own.
     pub fn new(alloc: Global, group: &'a Group, state: &'a State) -> Result<Trial<'a>> {
         let stage = Stage::after(alloc, &group.acts, state.acts)?;
         Ok(Trial {
