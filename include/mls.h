@@ -112,7 +112,8 @@ uint32_t mls_member_propose_extensions(mls_member *member, const uint8_t *extens
                                        mls_bytes **message);
 
 /* Commits the proposals that the member keeps, with a path where that isn't 0; the Welcome is null where nobody is
- * added. The member follows its commit once it processes it. */
+ * added. It leaves out those that can't go with the others or into the tree, as the addition of somebody who is there.
+ * The member follows its commit once it processes it. */
 uint32_t mls_member_commit_kept(mls_member *member, uint64_t path, const uint8_t *seed, size_t seed_length,
                                 mls_bytes **commit, mls_bytes **welcome);
 
