@@ -12,7 +12,7 @@ use Rattle.mls_leaf.specs.declared.error.LeafError.TheVariants as leaf
 use Rattle.mls_wire.specs.declared.WireError.TheVariants as wire
 use Rattle.mls_types.specs.GroupInfo.{ratchet_tree}
 use Rattle.mls_tree_model.specs.Arrays.{to_nodes}
-use Rattle.mls_cli_text.specs.Page.{Page, Printout, Prints, good, page_of, printout, refused}
+use Rattle.mls_cli_text.specs.Page.{Printout, Prints, good, page_of, printout, refused}
 use Rattle.mls_cli_text.specs.declared.page.Ending.TheVariants.{Good, Refused}
 use Rattle.mls_cli_text.specs.MadePage.{PrintsMade}
 use Rattle.mls_cli_text.specs.declared.page.Page as code

@@ -1,18 +1,15 @@
 -- What `mls replay --message N` prints: the message that has this number when all actions are done,
 -- in hex digits.
-use Rattle.std.specs.Prelude.{◌≡◌, ℕ, List, [], ◌∷◌, ◌++◌, codes, slice_get, Option, Some, None, Result, Ok, Err, IfOk}
+use Rattle.std.specs.Prelude.{◌≡◌, ℕ, List, [], ◌∷◌, ◌++◌, codes, slice_get, Option, Some, None, Result, IfOk}
 use Rattle.hex.specs.Hex.{encode_lower}
 use Rattle.mls_suite.specs.Crypto.{Crypto}
 use Rattle.mls_model.specs.World.{empty_world}
-use Rattle.mls_cli_text.specs.Page.{Page, Printout, Prints, good, page_of, printout, refused}
+use Rattle.mls_cli_text.specs.Page.{Page, Prints, good, page_of, printout, refused}
 use Rattle.mls_cli_text.specs.declared.page.Page as code
 use Rattle.mls_cli_text.specs.declared.fault.Fault.{Fault}
-use Rattle.mls_cli_recording.specs.Calls.{Recording, recording_view}
-use Rattle.mls_cli_recording.specs.Recording.{recording}
 use Rattle.mls_cli_recording.specs.declared.reading.Recorded.{Recorded}
-use Rattle.mls_cli_recording.specs.declared.reading.RecordedRun.{RecordedRun}
 use Rattle.mls_cli_replay.specs.Actions.{run_all}
-use Rattle.mls_cli_replay.specs.Replay.{PrintsOne, actions_of}
+use Rattle.mls_cli_replay.specs.Replay.{actions_of}
 use Rattle.mls_cli_replay.specs.declared.message.Digits.{Digits}
 
 -- the digits of a message, and a line feed

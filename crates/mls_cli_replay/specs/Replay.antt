@@ -1,7 +1,7 @@
 -- What `mls replay` prints of a recording: a line for what each action came to, one where another
 -- text is expected, at the end a line for each member, and one for each number at which these lines
 -- aren't those that are expected.
-use Rattle.std.specs.Prelude.{◌≡◌, ◌⊎◌, MatchResult, ℕ, zero, suc, ◌+◌, max, Bool, true, false, ◌&&◌, if◌then◌else◌, List, [], ◌∷◌, ◌++◌, codes, length, map, take, slice_get, Option, Some, None, option_map, option_to_list, Result, Ok, Err, IfOk, OnErr, string_bytes}
+use Rattle.std.specs.Prelude.{◌≡◌, ◌⊎◌, MatchResult, ℕ, zero, suc, ◌+◌, max, Bool, true, false, ◌&&◌, if◌then◌else◌, List, [], ◌∷◌, ◌++◌, codes, length, map, take, slice_get, Option, Some, None, option_map, option_to_list, Result, IfOk, OnErr, string_bytes}
 use Rattle.std.specs.Borrow.{Bor}
 use Rattle.std.specs.Fmt.{decimal}
 use Rattle.std.specs.Global.{Global, Vec}
@@ -24,8 +24,7 @@ use Rattle.mls_cli_text.specs.declared.page.Ending.{Ending}
 use Rattle.mls_cli_text.specs.declared.page.Ending.TheVariants.{Good, Failed}
 use Rattle.mls_cli_json.specs.declared.error.JsonError.{JsonError}
 use Rattle.mls_cli_json.specs.declared.error.JsonError.TheVariants as error
-use Rattle.mls_cli_recording.specs.Calls.{Recording, recording_view, texts_view}
-use Rattle.mls_cli_recording.specs.Recording.{recording}
+use Rattle.mls_cli_recording.specs.Calls.{texts_view}
 use Rattle.mls_cli_recording.specs.declared.actions.Action.{Action}
 use Rattle.mls_cli_recording.specs.declared.reading.Recorded.{Recorded}
 use Rattle.mls_cli_recording.specs.declared.reading.RecordedRun.{RecordedRun}
