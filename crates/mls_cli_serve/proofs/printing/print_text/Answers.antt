@@ -23,3 +23,9 @@ returns-in-Vectors-clause-prints g c =
 pub returns-in-Draw-clause-prints : goal.returns-in-Draw-clause-prints
 returns-in-Draw-clause-prints g c =
     rw c.in-Draw.is (prints_it _ _ _ _ _ refl c.print_drawing.ensures.prints)
+
+pub returns-in-Replay-clause-prints : goal.returns-in-Replay-clause-prints
+returns-in-Replay-clause-prints g c = rw c.in-Replay.is c.print_recording.ensures.prints
+
+pub returns-in-DrawMember-clause-prints : goal.returns-in-DrawMember-clause-prints
+returns-in-DrawMember-clause-prints g c = rw c.in-DrawMember.is c.print_picture.ensures.prints
