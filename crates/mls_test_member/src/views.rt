@@ -216,10 +216,16 @@ fn second_again(alloc: Global) -> Result<Box<Candidate<Glass>>, Refusal> {
     Ok(Box::new(alloc, candidate)?)
 }
 
+/// A member proposes to add a candidate.
+fn offer(member: &mut Member<Glass>, candidate: &Candidate<Glass>) -> Result<Vec<u8>, Refusal> {
+    candidate.is_short();
+    member.propose_add(candidate.key_package())
+}
+
 /// A member proposes to add the second, who is there.
 fn offer_again(alloc: Global, member: &mut Member<Glass>) -> Result<Vec<u8>, Refusal> {
     let candidate = second_again(alloc)?;
-    member.propose_add(candidate.key_package())
+    offer(member, &candidate)
 }
 
 /// The first proposes to add the second, and commits what it keeps. Whether it leaves out that addition alone.
