@@ -53,13 +53,14 @@ abbrev pub is_leaf_of : List ℕ → Option LeafNode → Bool
 is_leaf_of key None = false
 is_leaf_of key (Some leaf) = bytes_eq leaf.signature_key key
 
--- whether it removes that client from a tree, where the client isn't the member at leaf me
-abbrev pub removes_client : ℕ → Term → List ℕ → Option ℕ → Bool
-removes_client me t key None = false
-removes_client me t key (Some leaf) = not (leaf == me) && is_leaf_of key (leaf_of t leaf)
+-- whether what may be a removal is of that client's leaf, which isn't the member's own at leaf me
+abbrev pub is_removal_of : ℕ → Term → List ℕ → Option ℕ → Bool
+is_removal_of me t key None = false
+is_removal_of me t key (Some leaf) = not (leaf == me) && is_leaf_of key (leaf_of t leaf)
 
-abbrev pub makes_room : ℕ → Term → List ℕ → KeptProposal → Bool
-makes_room me t key k = removes_client me t key (remove_in k.proposal)
+-- whether it removes that client from the tree
+abbrev pub removes_client : ℕ → Term → List ℕ → KeptProposal → Bool
+removes_client me t key k = is_removal_of me t key (remove_in k.proposal)
 
 -- the encryption key that a proposal brings into the tree: that of an add's or an update's leaf
 abbrev pub new_key : Proposal → Option (List ℕ)
@@ -86,7 +87,7 @@ sets_extensions k = is_some (extensions_in k.proposal)
 -- whether the client with this signature key is in the tree, and none of all the kept proposals removes it; the member at
 -- leaf me doesn't remove itself
 abbrev pub is_staying : ℕ → Term → List KeptProposal → List ℕ → Bool
-is_staying me t all key = has_client t key && not (list_any (makes_room me t key) all)
+is_staying me t all key = has_client t key && not (list_any (removes_client me t key) all)
 
 -- whether a node of the tree has this encryption key, or a later proposal brings it
 abbrev pub is_taken : Term → List KeptProposal → List ℕ → Bool

@@ -8,7 +8,7 @@ ghost use Rattle.mls_model.specs.MemberInvariant.{IsGoodMember};
 ghost use Rattle.mls_tree.specs.Tree.{term};
 ghost use Rattle.mls_tree_model.specs.Term.{leaf_of};
 ghost use Rattle.mls_member.specs.Answers.{AreShortItems, IsShortItem, RefusesLast, RefusesPending};
-ghost use Rattle.mls_member.specs.KeptTogether.{CommitsKept, KeptReaches, adds, apart, brings, is_leaf_of, is_left_out, is_staying, is_taken, kept_list, left_out_of, makes_room, named, removes, sets_extensions, together, updates};
+ghost use Rattle.mls_member.specs.KeptTogether.{CommitsKept, KeptReaches, adds, apart, brings, is_leaf_of, is_left_out, is_staying, is_taken, kept_list, left_out_of, removes_client, named, removes, sets_extensions, together, updates};
 ghost use Rattle.mls_member.specs.declared.error.Refusal.TheVariants.{Gone};
 
 use crate::commit::Made;
@@ -78,8 +78,8 @@ fn is_leaf_of(tree: &PublicTree, leaf: u32, key: &[u8]) -> bool
 }
 
 /// Whether a kept proposal removes the client with a signature key, where that isn't the member at leaf `me`.
-fn makes_room(kept: &KeptProposal, me: u32, tree: &PublicTree, key: &[u8]) -> bool
-    ensures { result ≡ makes_room me (term tree.now) key.now kept.now }
+fn removes_client(kept: &KeptProposal, me: u32, tree: &PublicTree, key: &[u8]) -> bool
+    ensures { result ≡ removes_client me (term tree.now) key.now kept.now }
 {
     match &kept.proposal {
         Proposal::Add(_) => false,
@@ -135,10 +135,10 @@ fn any_adds(kept: &[KeptProposal], key: &[u8]) -> bool
 }
 
 /// Whether one of the kept proposals removes the client with a signature key, where that isn't the member at leaf `me`.
-fn any_makes_room(kept: &[KeptProposal], me: u32, tree: &PublicTree, key: &[u8]) -> bool
-    ensures { result ≡ list_any (makes_room me (term tree.now) key.now) kept.now }
+fn any_removes_client(kept: &[KeptProposal], me: u32, tree: &PublicTree, key: &[u8]) -> bool
+    ensures { result ≡ list_any (removes_client me (term tree.now) key.now) kept.now }
 {
-    kept.iter().any(|one| makes_room(one, me, tree, key))
+    kept.iter().any(|one| removes_client(one, me, tree, key))
 }
 
 /// Whether one of the kept proposals brings an encryption key into the tree.
@@ -159,7 +159,7 @@ fn any_sets_extensions(kept: &[KeptProposal]) -> bool
 fn is_staying(me: u32, tree: &PublicTree, all: &[KeptProposal], key: &[u8]) -> bool
     ensures { result ≡ is_staying me (term tree.now) all.now key.now }
 {
-    tree.has_client(key) && !any_makes_room(all, me, tree, key)
+    tree.has_client(key) && !any_removes_client(all, me, tree, key)
 }
 
 /// Whether an encryption key is in the tree, or a later kept proposal brings it.
