@@ -152,7 +152,8 @@ fn print_run<S: Suite, O: Output, P: Progress>(
     out: &mut O,
     progress: &mut P,
 ) -> Result<u8, Fault>
-    ensures prints { PrintsRun O.contents out.old out.new S.crypto view file.now recorded.now result }
+    ensures prints { PrintsRun O.contents out.old out.new S.crypto view file.now
+        recorded.now result }
     ensures status { IfOk result (λ status. status ≤ 1) }
     ensures fault { O.failed out.new ≡ write_failed (O.failed out.old) result }
     ensures written { IfErr result (λ e. e ≢ Fault.Read) }

@@ -237,7 +237,7 @@ fn leaves_out_offer(alloc: Global, pair: &mut Pair<Glass>) -> Result<bool, Refus
 }
 
 #[test]
-fn who_is_there_is_not_added(rt: HostRuntime) -> Result<(), Fail> {
+fn no_member_joins_twice(rt: HostRuntime) -> Result<(), Fail> {
     let mut pair = new_pair(rt.alloc())?;
     assert!(rt; leaves_out_offer(rt.alloc(), &mut pair)?);
     assert_eq!(rt; pair.second.epoch(), 3);
