@@ -1,5 +1,5 @@
 -- What a call left is taken apart. Assumes `Logic`.
-use Rattle.std.proofs.Common.{◌≡◌, ℕ, List, [], ◌∷◌, ◌++◌, refl, sym, subst, ◌∙◌}
+use Rattle.std.proofs.Common.{◌≡◌, List, [], ◌∷◌, ◌++◌, refl, ◌∙◌}
 use seplogic.Ra.Ura.{Ura}
 use mir.Val.{Val, vint, vstruct, of_list}
 use base.Logic.{id⊢}
@@ -8,8 +8,6 @@ use types.Kit.{Item, Goal, Seq, ‵, ◌$◌, move, drop, use1, fsplit, fpick, f
 use denote.Builtin.{u32, u64}
 use denote.Laws.{Is, shows}
 use denote.Param.{layout}
-use denote.Plain.{uint_Lawful, uint_Tells}
-use denote.RattleType.{RattleType}
 use denote.RawPtr.{Ptr, block_ptr, null_ptr}
 use denote.Steps.{peeks}
 use Rattle.std.proofs.cell.Inside.{Good}

@@ -3,7 +3,7 @@ use Rattle.std.proofs.Common.{◌≡◌, ℕ, List, [], ◌∷◌, refl, subst}
 use seplogic.Ra.Ura.{Ura}
 use mir.Syntax.{Ty}
 use mir.Val.{Val}
-use base.Logic.{SProp, ent, emp, id⊢}
+use base.Logic.{emp, id⊢}
 use types.Logic.{Logic}
 use contract.Monad.{fact, fact_i}
 use types.Kit.{Item, Goal, Seq, Step, Soaks, step, ‵, raw, ◌⊛◌, some, later, ◌$◌, move, drop, use0, use1, split, pick, await, rewrite}

@@ -1,5 +1,5 @@
 -- What each call of the library for C does: what it makes, with what its handle holds then.
-use Rattle.std.specs.Prelude.{◌≡◌, ◌≢◌, ℕ, ◌&&◌, Bool, List, length, Option, None, Some, option_map, Result, Ok, Err, MatchResult, if◌then◌else◌, nat_eq, nat_lt, not, get_or, is_some, ◌^◌}
+use Rattle.std.specs.Prelude.{◌≡◌, ◌≢◌, ℕ, ◌&&◌, List, length, Option, None, Some, option_map, Result, Ok, Err, MatchResult, if◌then◌else◌, nat_eq, nat_lt, not, get_or, is_some, ◌^◌}
 use Rattle.std.specs.Str.{is_utf8}
 use Rattle.mls_wire.specs.Checks.{DoesAs, Answers, require_some}
 use Rattle.mls_wire.specs.Combine.{vector}

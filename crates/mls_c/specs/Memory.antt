@@ -1,5 +1,5 @@
 -- What lies at the pointers that C passes.
-use Rattle.std.specs.Prelude.{◌≡◌, ℕ, ◌<◌, ◌^◌, List, [], Option, None, Some, Result, Ok, Err, ⊤}
+use Rattle.std.specs.Prelude.{◌≡◌, ℕ, ◌<◌, ◌^◌, List, [], Option, None, Result, Ok, Err, ⊤}
 use base.Fraction.{full_share}
 use base.Fml.{Fml, Share, ftrue, fsep, fex}
 use denote.RattleType.{RattleType}

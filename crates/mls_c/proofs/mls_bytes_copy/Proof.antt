@@ -1,23 +1,20 @@
 -- `mls_bytes_copy` passes on to `copy_bytes`.
-use Rattle.std.proofs.Common.{◌≡◌, ℕ, List, [], ◌∷◌, ◌++◌, length, refl, w32}
+use Rattle.std.proofs.Common.{ℕ, [], ◌∷◌, length, refl, w32}
 use base.Logic.{id⊢}
 use base.Fml.{ftrue, flft}
 use mir.Syntax.{named}
-use mir.Val.{Val}
-use prog.Wp.{WpFn}
 use contract.Monad.{fact}
 use contract.Running.{tables}
-use types.Kit.{‵, raw, ◌⊛◌, some, later, ◌$◌, ◌∵◌, !, qed, by, move, drop, use1, split, split3, join, pick, await, fsplit, fjoin, feq_l}
-use types.Run.{addr, from, hop, stop, fld, enter, of_opd, no_more, and_then, returns}
+use types.Kit.{‵, raw, ◌⊛◌, some, later, ◌$◌, ◌∵◌, !, qed, by, move, drop, use1, split, split3, pick, await, fsplit, fjoin, feq_l}
+use types.Run.{addr, from, hop, stop, fld, enter, no_more, and_then, returns}
 use types.ByLocal.{look_in_at, alloc_all, pass_all, free_all, look_at, get, get_in, sets, lands_as}
 use types.Part.{agg, sub, whole}
 use denote.Builtin.{u8, u32}
 use denote.Exit.{yes}
 use denote.Plain.{uint_Lawful}
-use denote.RattleType.{RattleType}
 use denote.RawPtr.{RawPtr, ptr_val, rawptr_vals, rawptr_Tells, rawptr_Lawful}
 use denote.Signature.{plain}
-use denote.Slice.{MutSlice, slice_val, mut_slice_vals, mut_slice_Tells}
+use denote.Slice.{slice_val, mut_slice_vals, mut_slice_Tells}
 use denote.Steps.{nothing}
 use denote.Triple.Call.{calls_at}
 use denote.Triple.Clauses.{Lasts, lasts}

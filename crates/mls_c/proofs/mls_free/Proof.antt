@@ -1,15 +1,12 @@
 -- `mls_free` passes on to `free_handle`.
-use Rattle.std.proofs.Common.{◌≡◌, ℕ, List, [], ◌∷◌, ◌++◌, refl, w32}
-use base.Logic.{id⊢}
-use prog.Wp.{WpFn}
+use Rattle.std.proofs.Common.{[], ◌∷◌, refl, w32}
 use contract.Running.{tables}
-use types.Kit.{‵, raw, ◌$◌, ◌∵◌, !, qed, by, move, use1, fjoin}
+use types.Kit.{raw, ◌$◌, ◌∵◌, !, qed, by, fjoin}
 use types.Run.{enter, no_more, and_then, returns}
 use types.ByLocal.{alloc_all, pass_all, free_all, look_at, get, lands_as}
 use denote.Builtin.{u32}
 use denote.Exit.{yes}
 use denote.Plain.{uint_Lawful}
-use denote.RattleType.{RattleType}
 use denote.RawPtr.{RawPtr, ptr_val, rawptr_vals, rawptr_Tells, rawptr_Lawful}
 use denote.Signature.{plain}
 use denote.Steps.{nothing}

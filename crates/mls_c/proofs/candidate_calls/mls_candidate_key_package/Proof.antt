@@ -1,9 +1,8 @@
 -- `mls_candidate_key_package` passes on to `run`.
-use Rattle.std.proofs.Common.{◌≡◌, ℕ, List, [], ◌∷◌, ◌++◌, refl, lit<, w32, w64}
+use Rattle.std.proofs.Common.{[], ◌∷◌, refl, lit<, w32, w64}
 use base.Logic.{id⊢}
 use base.Fml.{ftrue}
-use mir.Val.{Val, vint, of_list}
-use prog.Wp.{WpFn}
+use mir.Val.{vint, of_list}
 use contract.Running.{tables}
 use types.Kit.{‵, raw, ◌⊛◌, ◌$◌, ◌∵◌, !, qed, by, move, drop, use0, use1, split, join, fsplit, fjoin}
 use types.Match.{live}
@@ -13,7 +12,7 @@ use types.ByLocal.{alloc_all, pass_all, free_all, look_at, get, sets, lands_as}
 use denote.Builtin.{u32, u64, usize}
 use denote.Exit.{yes}
 use denote.Laws.{Is}
-use denote.Plain.{uint_vals, uint_Tells, uint_Makes, uint_Lawful}
+use denote.Plain.{uint_Makes, uint_Lawful}
 use denote.RattleType.{RattleType, owns}
 use denote.RawPtr.{Ptr, RawPtr, null_ptr, ptr_val, rawptr_vals, rawptr_Tells, rawptr_Lawful, rawptr_Makes}
 use denote.Signature.{plain}

@@ -1,10 +1,9 @@
 -- `copy_bytes` takes the value out of the handle, lets `copy_out` copy it, and puts it back.
-use Rattle.std.proofs.Common.{◌≡◌, ℕ, List, [], ◌∷◌, ◌++◌, length, refl, ap, subst, w32}
+use Rattle.std.proofs.Common.{◌≡◌, [], ◌∷◌, length, refl, ap, subst, w32}
 use base.Logic.{id⊢}
-use base.Fml.{ftrue, fsep, flft, feq}
+use base.Fml.{ftrue, flft}
 use mir.Syntax.{named}
-use mir.Val.{Val, vint}
-use prog.Wp.{WpFn}
+use mir.Val.{vint}
 use contract.Monad.{fact}
 use contract.Running.{tables}
 use types.Kit.{‵, raw, ◌⊛◌, some, later, ◌$◌, ◌∵◌, !, qed, by, move, keep, drop, use1, split, split3, join, pick, await, fsplit, fjoin, feq_l, rewrite}
@@ -37,7 +36,7 @@ use Rattle.mls_c.proofs.held.Held.TheLaws as held_laws
 use Rattle.mls_c.specs.contracts.copying.CopyOutcome as copy_outcome
 use Rattle.mls_c.proofs.copying.CopyOutcome.TheLaws as copy_outcome_laws
 use Rattle.mls_c.proofs.Rows.{typed, comes, holds}
-use Rattle.mls_c.proofs.Apart.{copy_apart, if_null, stays_null}
+use Rattle.mls_c.proofs.Apart.{copy_apart, if_null}
 use Rattle.mls_c.specs.contracts.pointer.nothing as none
 use Rattle.mls_c.proofs.pointer.nothing.Met as none_thm
 use Rattle.mls_c.specs.contracts.pointer.swap_held as swap_held

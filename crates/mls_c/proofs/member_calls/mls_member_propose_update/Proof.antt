@@ -1,9 +1,8 @@
 -- `mls_member_propose_update` passes on to `run`.
-use Rattle.std.proofs.Common.{◌≡◌, ℕ, List, [], ◌∷◌, ◌++◌, refl, lit<, w32, w64}
+use Rattle.std.proofs.Common.{[], ◌∷◌, refl, lit<, w32, w64}
 use base.Logic.{id⊢}
 use base.Fml.{ftrue}
-use mir.Val.{Val, vint, of_list}
-use prog.Wp.{WpFn}
+use mir.Val.{vint, of_list}
 use contract.Running.{tables}
 use types.Kit.{‵, raw, ◌⊛◌, ◌$◌, ◌∵◌, !, qed, by, move, drop, use0, use1, split, join, fsplit, fjoin}
 use types.Match.{live}

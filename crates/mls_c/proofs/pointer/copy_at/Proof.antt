@@ -1,5 +1,5 @@
 -- `copy_at` lends the bytes for a lifetime that is made for the call of `bytes_of`, unless the pointer is null.
-use Rattle.std.proofs.Common.{◌≡◌, ℕ, ◌*◌, ◌^◌, ◌<◌, List, [], ◌∷◌, ◌++◌, length, refl, subst, arith, lit<, w8, w64, Bor}
+use Rattle.std.proofs.Common.{ℕ, ◌*◌, ◌^◌, ◌<◌, List, [], ◌∷◌, length, refl, subst, arith, lit<, w8, w64, Bor}
 use seplogic.Ra.Ura.{Ura}
 use base.Fraction.{full_share}
 use mir.Syntax.{named}
@@ -36,7 +36,6 @@ use denote.Steps.{owned, heard, nothing}
 use denote.Triple.Statement.{Contract, Triple}
 use denote.Triple.Call.{calls_at}
 use denote.Triple.Clauses.{ensured, lasts}
-use denote.Triple.Entry.{on_entry}
 use denote.Triple.Spec.{triple_of}
 use denote.Triple.Table.{framed}
 use denote.Triple.Walked.{Stays, stay_dropped, walk_of, Goes-dropped}
@@ -46,7 +45,7 @@ use Rattle.std.specs.declared.alloc.Global.{Global}
 use Rattle.std.specs.contracts.alloc.Global as heap
 use Rattle.std.proofs.alloc.Global.TheLaws as heap_laws
 use Rattle.mls_c.specs.Memory.{bytes_at}
-use Rattle.mls_c.specs.Given.{IsCopy, IsNone, IsGiven}
+use Rattle.mls_c.specs.Given.{IsCopy, IsNone}
 use Rattle.mls_c.specs.contracts.given.Given as given
 use Rattle.mls_c.proofs.given.Given.TheLaws as given_laws
 use Rattle.mls_c.proofs.Rows.{typed, comes, holds}

@@ -1,5 +1,5 @@
 -- `free_handle` lets the box go, unless the pointer is null.
-use Rattle.std.proofs.Common.{◌≡◌, ℕ, List, [], ◌∷◌, ◌++◌, refl, lit<, w32}
+use Rattle.std.proofs.Common.{◌≡◌, [], ◌∷◌, refl, lit<, w32}
 use base.Logic.{ent, sep, id⊢, guard_i}
 use base.Fml.{ftrue}
 use mir.Raw.{raw as bare}
@@ -35,8 +35,7 @@ use Rattle.std_heap.proofs.GlobalToken.{dealloc_token-Testable}
 use Rattle.mls_c.specs.Faults.{number_of}
 use Rattle.mls_c.specs.declared.error.MisuseError.TheVariants.{NullHandle}
 use Rattle.mls_c.specs.Loose.{loose_owns}
-use Rattle.mls_c.specs.Memory.{held_at, free_answer}
-use Rattle.mls_c.specs.declared.held.Held.{Held}
+use Rattle.mls_c.specs.Memory.{held_at}
 use Rattle.mls_c.specs.contracts.held.Held as held
 use Rattle.mls_c.proofs.Loosened.{both, Loose, loose_good, loose_in}
 use Rattle.mls_c.proofs.Rows.{by_pointer, typed, comes, holds}

@@ -1,12 +1,10 @@
 -- `put_handle` writes the pointer of what was made, unless it is to be written to null.
-use Rattle.std.proofs.Common.{◌≡◌, ℕ, List, [], ◌∷◌, ◌++◌, refl, sym, ap, subst, lit<}
+use Rattle.std.proofs.Common.{◌≡◌, List, [], ◌∷◌, ◌++◌, refl, sym, ap, subst, lit<}
 use base.Fraction.{full_share}
-use base.Logic.{ent, sep, id⊢}
-use base.Fml.{ftrue, fat, fsep}
-use mir.Syntax.{ty_ptr}
+use base.Logic.{ent, id⊢}
+use base.Fml.{ftrue, fsep}
 use mir.Val.{Val, vunit, vptr, vnull}
 use prog.Wp.{WpFn}
-use types.Logic.{sem}
 use contract.Monad.{fact}
 use contract.Running.{tables}
 use types.Kit.{rewrite, ‵, raw, ◌⊛◌, at_ret, ◌$◌, ◌∵◌, !, qed, by, move, keep, drop, use1, use2, split, join, fsplit, fjoin, fpick, fpack, feq_i, feq_l}
@@ -16,14 +14,12 @@ use types.Part.{sub, whole}
 use borrow.Table.OneValue.{part_in}
 use denote.Builtin.{unit}
 use denote.Exit.{yes, rest}
-use denote.Memory.{part_at}
-use denote.RattleType.{RattleType, owns}
+use denote.RattleType.{owns}
 use denote.Laws.{Typed}
-use denote.RawPtr.{Ptr, RawPtr, block_ptr, null_ptr, ptr_val, lies_at, rawptr_vals, rawptr_Tells, rawptr_Lawful, tests_null}
+use denote.RawPtr.{Ptr, RawPtr, block_ptr, null_ptr, ptr_val, lies_at, rawptr_Lawful, tests_null}
 use denote.Signature.{plain}
 use denote.Steps.{nothing, heard, only}
 use denote.Triple.Call.{calls_at}
-use denote.Triple.Entry.{on_entry}
 use denote.Triple.Spec.{triple_of}
 use denote.Triple.Table.{framed}
 use denote.Triple.Walked.{Stays, walk_of, stay_dropped, Goes-dropped}
@@ -35,15 +31,15 @@ use Rattle.std.specs.declared.alloc.Global.{Global}
 use Rattle.std.specs.contracts.alloc.Global as heap
 use Rattle.std.proofs.alloc.Global.TheLaws as heap_laws
 use Rattle.std.specs.contracts.impls.GlobalAllocator.TheImpl.{ghosts}
-use Rattle.mls_c.specs.Memory.{room_if, handle_put}
+use Rattle.mls_c.specs.Memory.{room_if}
 use Rattle.mls_c.specs.Shown.{boxed}
 use Rattle.std.specs.declared.option.Option.{Option}
 use Rattle.mls_c.specs.declared.held.Held.{Held}
 use Rattle.mls_c.specs.Loose.{loose_owns}
 use Rattle.mls_c.specs.contracts.held.Held as held
-use Rattle.mls_c.proofs.Loosened.{both, loose_typed, loose_out}
+use Rattle.mls_c.proofs.Loosened.{loose_typed, loose_out}
 use Rattle.mls_c.proofs.CallRows.{Made, made_row_laws}
-use Rattle.mls_c.proofs.Rows.{by_pointer, comes, holds}
+use Rattle.mls_c.proofs.Rows.{by_pointer, comes}
 use Rattle.mls_c.proofs.Exits.{made_blank}
 use Rattle.mls_c.specs.contracts.pointer.let_made_go as lets
 use Rattle.mls_c.proofs.pointer.let_made_go.Met as lets_thm

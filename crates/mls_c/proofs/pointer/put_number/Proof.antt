@@ -1,12 +1,11 @@
 -- `put_number` writes the number, unless the pointer is null.
-use Rattle.std.proofs.Common.{◌≡◌, ℕ, List, [], ◌∷◌, ◌++◌, refl, lit<, w64}
+use Rattle.std.proofs.Common.{List, [], ◌∷◌, refl, lit<, w64}
 use base.Fraction.{full_share}
-use base.Logic.{ent, sep, id⊢}
-use base.Fml.{ftrue}
+use base.Logic.{ent, sep}
 use mir.Val.{Val, vunit, vint, vptr, vnull}
 use prog.Wp.{WpFn}
 use types.Logic.{sem}
-use types.Kit.{‵, raw, ◌⊛◌, at_ret, ◌$◌, ◌∵◌, !, qed, by, move, keep, drop, use1, split, fsplit, fjoin, fpick, feq_i}
+use types.Kit.{‵, raw, at_ret, ◌$◌, ◌∵◌, !, qed, by, drop, use1, fsplit, fjoin, fpick, feq_i}
 use types.Run.{enter, of_opd, lit, unit_lit, bin, init, stop, assigns, first, branches, skips, exec, returns, returns_within}
 use types.ByLocal.{alloc_all, pass_all, free_all, look_at, get, through, sets, env}
 use contract.Running.{tables}
@@ -14,13 +13,12 @@ use denote.Builtin.{u64}
 use denote.Exit.{yes}
 use denote.Plain.{uint_in, uint_vals, uint_Tells}
 use denote.RawPtr.{Ptr, RawPtr, block_ptr, null_ptr, ptr_val, lies_at, rawptr_vals, rawptr_Tells, tests_null}
-use denote.RattleType.{owns}
 use denote.Signature.{plain}
 use denote.Steps.{nothing}
 use denote.Triple.Entry.{on_entry}
 use denote.Triple.Walked.{Stays, walk_of, stay_dropped, Goes-dropped}
 use Rattle.std.proofs.raw_atomic.Walks.{proved, leaves}
-use Rattle.mls_c.specs.Memory.{room_if, number_put}
+use Rattle.mls_c.specs.Memory.{room_if}
 use Rattle.mls_c.proofs.Rows.{by_pointer}
 use Rattle.mls_c.specs.contracts.pointer.put_number as f
 use Rattle.mls_c.proofs.pointer.put_number.Statement.{statement}

@@ -1,34 +1,29 @@
 -- `swap_held` reads the old value and writes the new one, unless the pointer is null.
-use Rattle.std.proofs.Common.{◌≡◌, ℕ, List, [], ◌∷◌, ◌++◌, refl, sym, subst, lit<, ◌∙◌}
+use Rattle.std.proofs.Common.{◌≡◌, List, [], ◌∷◌, ◌++◌, refl, sym, subst, lit<, ◌∙◌}
 use base.Logic.{guard_i}
 use contract.Monad.{fact_use}
-use types.Kit.{rewrite}
 use base.Fraction.{full_share}
-use base.Logic.{ent, sep, id⊢}
-use base.Fml.{ftrue, fat, fex}
+use base.Logic.{ent}
+use base.Fml.{ftrue, fat}
 use mir.Raw.{raw as bare}
-use mir.Syntax.{Ty}
 use mir.Val.{Val, vptr, vnull}
 use prog.Wp.{WpFn}
-use types.Logic.{sem}
 use contract.Monad.{fact}
 use contract.Running.{tables}
-use types.Kit.{‵, raw, given, some, ◌⊛◌, at_ret, ◌$◌, ◌∵◌, !, qed, by, move, keep, drop, learn, pick, use1, use2, split, join, fsplit, fjoin, fpick, fpack}
+use types.Kit.{‵, raw, given, some, ◌⊛◌, at_ret, ◌$◌, ◌∵◌, !, qed, by, move, keep, drop, learn, pick, use1, use2, split, fsplit, fjoin, fpick, fpack}
 use types.Run.{enter, of_opd, lit, bin, load, look, store, stop, assigns, first, branches, skips, exec, returns, returns_within}
 use types.ByLocal.{alloc_all, pass_all, free_all, look_at, get, through, sets, env}
 use borrow.Table.OneValue.{part_out, part_in}
 use denote.Exit.{yes, rest}
 use denote.Memory.{part_at, lone}
 use denote.RattleType.{RattleType, owns}
-use denote.RawPtr.{Ptr, RawPtr, block_ptr, null_ptr, ptr_val, rawptr_vals, rawptr_Tells, Testable, tests_null}
+use denote.RawPtr.{Ptr, RawPtr, block_ptr, null_ptr, ptr_val, Testable, tests_null}
 use denote.Signature.{plain}
 use denote.Steps.{nothing, heard}
-use denote.Triple.Entry.{on_entry}
 use denote.Triple.Walked.{Stays, walk_of, stay_dropped, Goes-dropped}
 use Rattle.std.proofs.alloc.Calls.{Goes-blank}
 use Rattle.std.proofs.cell.Inside.{one}
 use denote.Param.{layout}
-use denote.Laws.{Is}
 use Rattle.std.proofs.raw_atomic.Walks.{proved_at, leaves}
 use Rattle.std.specs.declared.alloc.Global.{Global}
 use Rattle.std.specs.contracts.impls.GlobalAllocator.TheImpl.{ghosts}

@@ -1,10 +1,8 @@
 -- `run` copies the bytes, takes the value out of the handle, lets `do_call` work on it, and puts back what it leaves.
-use Rattle.std.proofs.Common.{◌≡◌, ℕ, List, [], ◌∷◌, ◌++◌, refl, ap, subst, w32, w64}
+use Rattle.std.proofs.Common.{◌≡◌, ℕ, [], ◌∷◌, refl, ap, subst, w32, w64}
 use base.Logic.{id⊢}
 use base.Fml.{ftrue, fsep}
-use mir.Val.{Val, vint, vunit}
-use prog.Wp.{WpFn}
-use types.Logic.{sem}
+use mir.Val.{vint}
 use contract.Monad.{fact}
 use contract.Running.{tables}
 use types.Kit.{‵, raw, ◌⊛◌, ◌$◌, ◌∵◌, !, qed, by, move, drop, use1, split, split3, join, fsplit, fjoin, fpack, feq_l, rewrite}
@@ -16,7 +14,7 @@ use denote.Exit.{yes}
 use denote.Laws.{Is, Typed}
 use denote.Plain.{uint_vals, uint_Tells, uint_Makes}
 use denote.RattleType.{RattleType, owns}
-use denote.RawPtr.{Ptr, RawPtr, block_ptr, null_ptr, ptr_val, rawptr_vals, rawptr_Tells, rawptr_Lawful, rawptr_Makes}
+use denote.RawPtr.{Ptr, RawPtr, ptr_val, rawptr_vals, rawptr_Tells, rawptr_Lawful, rawptr_Makes}
 use denote.Signature.{plain}
 use denote.Steps.{nothing, heard, owned, only}
 use denote.Triple.Call.{calls_at}
@@ -25,10 +23,9 @@ use denote.Triple.Spec.{triple_of}
 use denote.Triple.Table.{framed}
 use denote.Triple.Walked.{Stays, walk_of, stay_dropped, Goes-dropped}
 use Rattle.std.proofs.raw_atomic.Walks.{proved, leaves}
-use Rattle.std.specs.declared.alloc.Global.{Global}
 use Rattle.std.specs.contracts.alloc.Global as heap
 use Rattle.std.proofs.alloc.Global.TheLaws as heap_laws
-use Rattle.mls_c.specs.Memory.{IfNull, held_at, bytes_at, handle_put, number_put, asked_at, HasAnswered, Outcome, left_at, says, made_of, other_of, value_of, answer_number, ArePartsOf, Passed}
+use Rattle.mls_c.specs.Memory.{IfNull, held_at, bytes_at, handle_put, number_put, asked_at, HasAnswered, Outcome, left_at, says, ArePartsOf, Passed}
 use Rattle.mls_c.specs.Answers.{DoesCall}
 use Rattle.mls_c.specs.Given.{IsGiven, given_bytes}
 use Rattle.mls_c.specs.Shown.{boxed, shown}
@@ -45,7 +42,6 @@ use Rattle.mls_c.specs.contracts.done.Done as done
 use Rattle.mls_c.proofs.done.Done.TheLaws as done_laws
 use Rattle.mls_c.specs.contracts.done.Parts as parts
 use Rattle.mls_c.proofs.done.Parts.TheLaws as parts_laws
-use Rattle.mls_c.proofs.CallRows.{Made}
 use Rattle.mls_c.proofs.Rows.{typed, comes, holds}
 use Rattle.mls_c.proofs.Apart.{done_apart, parts_apart, if_null, stays_null}
 use Rattle.mls_c.specs.contracts.pointer.copy_at as copy_at
