@@ -1,5 +1,5 @@
 -- What is said of a GroupInfo follows from its parts.
-use Rattle.std.proofs.Common.{◌≡◌, ◌≢◌, ◌∙◌, ◌<◌, ◌^◌, ℕ, true, false, List, [], ◌∷◌, ◌++◌, codes, Result, Ok, Err, length, ap, ap₂, arith, map, refl, subst, sym, append_assoc}
+use Rattle.std.proofs.Common.{◌≡◌, ◌≢◌, ◌∙◌, ◌<◌, ◌^◌, ℕ, true, false, List, [], ◌∷◌, ◌++◌, codes, Result, Ok, Err, length, ap, ap₂, arith, map, refl, subst, append_assoc}
 use Rattle.std.specs.Prelude.{IfOk, IsErr, MatchResult}
 use Rattle.std.specs.Global.{Vec}
 use Rattle.std.specs.declared.alloc.AllocError.{AllocError}
@@ -20,7 +20,7 @@ use Rattle.mls_cli_text.specs.declared.page.Page as code
 use Rattle.mls_cli_text.specs.declared.page.Ending.{Ending}
 use Rattle.mls_cli_text.specs.declared.page.Ending.TheVariants.{Good, Failed, Refused}
 use Rattle.mls_cli_text.specs.declared.text.Line.{Line}
-use Rattle.mls_cli_check.specs.Check.{all_passed, ok_line, page_behind, signature_word, word_line}
+use Rattle.mls_cli_check.specs.Check.{ok_line, page_behind, signature_word, word_line}
 use Rattle.mls_types.specs.GroupInfo.{group_info}
 use Rattle.mls_checks.specs.Short.{IsShort}
 use Rattle.mls_checks.proofs.SignedLaws.{written_is}

@@ -1,5 +1,5 @@
 -- A tree that was sent and is refused by the checks of a whole tree.
-use Rattle.std.proofs.Common.{◌≡◌, ℕ, true, List, Option, Some, Result, Ok, Err, refl}
+use Rattle.std.proofs.Common.{◌≡◌, ℕ, true, List, Option, Some, Ok, Err, refl}
 use Rattle.std.specs.Str.{bytes_eq}
 use Rattle.mls_leaf.specs.declared.node.Node.{Node}
 use Rattle.mls_types.specs.declared.group_info.GroupInfo.{GroupInfo}

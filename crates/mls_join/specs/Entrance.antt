@@ -1,5 +1,5 @@
 -- The member that an entrance makes of a candidate.
-use Rattle.std.specs.Prelude.{ℕ, ◌==◌, false, List, [], None, Result, Ok}
+use Rattle.std.specs.Prelude.{ℕ, ◌==◌, false, List, [], None, Result}
 use Rattle.mls_wire.specs.Checks.{Answers, Passed, require, require_some}
 use Rattle.mls_wire.specs.Reading.{◌>>=◌}
 use Rattle.mls_tree_model.specs.Term.{Term}

@@ -1,8 +1,8 @@
 -- Commits that give a list of extensions in full which no message has room for, and those that give none.
-use Rattle.std.proofs.Common.{◌≡◌, ◌≢◌, ℕ, ◌+◌, ◌<◌, ◌≤◌, ◌^◌, Bool, true, false, not, ◌&&◌, ◌||◌, cond, List, [], ◌∷◌, length, Option, None, Result, Ok, Err, refl, ap, sym, subst, ◌∙◌, arith, lit<, inl, inr, length-append}
+use Rattle.std.proofs.Common.{◌≡◌, ◌≢◌, ℕ, ◌<◌, ◌≤◌, ◌^◌, Bool, true, false, not, ◌&&◌, ◌||◌, cond, List, [], ◌∷◌, length, Result, Ok, Err, refl, ap, sym, subst, ◌∙◌, arith, lit<, inl, inr, length-append}
 use Rattle.std.specs.Prelude.{IfOk}
 use Rattle.std.specs.Int.{w16}
-use Rattle.std.specs.List.{AllByRecursion, cons_option, flat_map, list_any}
+use Rattle.std.specs.List.{cons_option, flat_map}
 use Rattle.std.proofs.lemmas.Bool.{cases_lt, le-leb, leb-true}
 use Rattle.mls_wire.specs.Laws.{ok_is}
 use Rattle.mls_wire.specs.Reading.{uint}
@@ -34,7 +34,7 @@ use Rattle.mls_public_group.specs.Short.{IsBelow, IsProposalBelow, AreBelow}
 use Rattle.mls_public_group.proofs.ShortLaws.{below_more, list_below}
 use Rattle.mls_message.proofs.Refusals.{refused_long}
 use Rattle.mls_update_path.proofs.OtherExtensions.{AreAlike, new_path_alike, new_path_merges}
-use Rattle.mls_make.specs.CommitCall.{HasShortParts, IsShortUsed, AreShortUsed, IsUsable, AreUsable}
+use Rattle.mls_make.specs.CommitCall.{HasShortParts, AreShortUsed, AreUsable}
 use Rattle.mls_make.specs.LongList.{IsRefusalPast, give_long_list, gives_long_list, has_long_list}
 use Rattle.mls_make.proofs.Lengths.{back, front, commit_within, items_inside, listed_inside, named_kept}
 use Rattle.mls_make.proofs.Steps.{said_in, commit_in, path_fails, content_fails}

@@ -19,7 +19,7 @@ use Rattle.mls_types.specs.declared.content.Content.TheVariants as says
 use Rattle.mls_types.specs.declared.content.FramedContent.{FramedContent}
 use Rattle.mls_suite.specs.Crypto.{Crypto}
 use Rattle.mls_tree_model.specs.Term.{Term}
-use Rattle.mls_treekem_model.specs.Keys.{Keys, PrivateKeys, all_keys}
+use Rattle.mls_treekem_model.specs.Keys.{Keys, PrivateKeys}
 use Rattle.mls_treekem_model.specs.Seeds.{seal_seed}
 use Rattle.mls_schedule.specs.Epoch.{init_secret, joiner_secret, epoch_secret, confirmation_tag}
 use Rattle.mls_model.specs.PublicState.{PublicState, Used}

@@ -1,7 +1,7 @@
 -- What comes before anything grows is the verdict's refusal, and `process` answers it.
-use Rattle.std.proofs.Common.{◌≡◌, ℕ, Bool, true, false, not, List, Option, Some, None, Result, Ok, Err, refl, sym, ap, subst, ◌∙◌}
-use Rattle.std.specs.Prelude.{IsErrAnd, is_some}
-use Rattle.mls_wire.specs.Checks.{AnswersOutright, Passed, passed, require, require_some, ◌>>◌}
+use Rattle.std.proofs.Common.{◌≡◌, ℕ, Bool, true, false, not, List, Option, Some, None, Result, Ok, Err, refl, sym, ap, subst}
+use Rattle.std.specs.Prelude.{IsErrAnd}
+use Rattle.mls_wire.specs.Checks.{passed, require, require_some, ◌>>◌}
 use Rattle.mls_wire.specs.Reading.{◌>>=◌}
 use Rattle.mls_leaf.specs.declared.leaf.LeafNode.{LeafNode}
 use Rattle.mls_types.specs.declared.message.MlsMessage.{MlsMessage}
@@ -13,7 +13,7 @@ use Rattle.mls_suite.specs.Crypto.{Crypto}
 use Rattle.mls_model.specs.declared.effect.Effect.{Effect}
 use Rattle.mls_model.specs.Member.{Member, Pending}
 use Rattle.mls_model.specs.Messages.{decode_message, public_in}
-use Rattle.mls_model.specs.Verdict.{own_pending, bytes_verdict, content_verdict, framing_checks, message_verdict, pending_or_received, verdict}
+use Rattle.mls_model.specs.Verdict.{own_pending, bytes_verdict, framing_checks, message_verdict, pending_or_received, verdict}
 use Rattle.mls_member.specs.declared.error.Refusal.{Refusal}
 use Rattle.mls_member.specs.declared.error.Refusal.TheVariants.{Gone}
 use Rattle.mls_member.specs.EarlyChecks.{checks_unless_own, early_checks}

@@ -2,7 +2,6 @@
 use Rattle.std.proofs.Common.{◌≡◌, ℕ, suc, Bool, true, false, List, [], ◌∷◌, slice_get, Result, Ok, Err, refl, ap, sym, ◌∙◌}
 use Rattle.std.proofs.lemmas.Slice.Eq.{bytes_eq-Decides}
 use Rattle.mls_leaf.specs.declared.extension.Extension.{Extension}
-use Rattle.mls_leaf.specs.GroupExtensions.{are_allowed}
 use Rattle.mls_wire.specs.Laws.{ok_is}
 use Rattle.mls_wire.proofs.CheckLaws.{bind_ok, then_ok}
 use Rattle.mls_wire.specs.Checks.{require}

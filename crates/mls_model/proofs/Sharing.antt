@@ -1,6 +1,6 @@
 -- What a caller knows once its members took a commit, and a candidate its Welcome: they share the next epoch, and none of them
 -- is refused.
-use Rattle.std.proofs.Common.{◌≡◌, ℕ, true, false, List, Option, Some, Result, Ok, Err, refl, sym, ap, subst, ◌∙◌}
+use Rattle.std.proofs.Common.{◌≡◌, ℕ, true, false, List, Option, Some, Result, Ok, Err, sym, ap, subst, ◌∙◌}
 use Rattle.std.specs.List.{list_any}
 use Rattle.std.specs.Str.{bytes_eq}
 use Rattle.mls_wire.specs.Laws.{ok_is}

@@ -1,5 +1,5 @@
 -- Combining with a reuse guard, from the front.
-use Rattle.std.proofs.Common.{◌≡◌, ℕ, zero, suc, ◌+◌, ◌<◌, ◌≤◌, List, [], ◌∷◌, length, get_or, set, take, ap, sym, refl, arith, add-one}
+use Rattle.std.proofs.Common.{◌≡◌, ℕ, zero, suc, ◌+◌, ◌<◌, List, [], ◌∷◌, length, get_or, set, take, ap, sym, refl, arith, add-one}
 use Rattle.std.specs.Prelude.{bit_xor}
 use Rattle.mls_private_message.specs.Keys.{xor_front}
 

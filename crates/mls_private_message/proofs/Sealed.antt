@@ -1,5 +1,5 @@
 -- What was sealed opens.
-use Rattle.std.proofs.Common.{◌≡◌, ℕ, List, [], ◌++◌, Option, Result, Ok, refl, sym, ap, ◌∙◌, append-nil}
+use Rattle.std.proofs.Common.{◌≡◌, ℕ, List, [], Option, Result, Ok, sym, ap, ◌∙◌, append-nil}
 use Rattle.mls_wire.specs.Reading.{◌>>=◌}
 use Rattle.mls_wire.specs.Checks.{require_some}
 use Rattle.mls_suite.specs.Crypto.{Crypto, Lawful}

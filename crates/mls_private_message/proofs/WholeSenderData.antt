@@ -1,5 +1,5 @@
 -- Reading all of the bytes as sender data.
-use Rattle.std.proofs.Common.{◌≡◌, ℕ, suc, Bool, true, false, cond, eqb, List, [], ◌∷◌, length, Option, Some, None, Result, Ok, Err, refl, sym, ap, ◌∙◌, arith}
+use Rattle.std.proofs.Common.{◌≡◌, ℕ, Bool, true, false, cond, eqb, List, [], ◌∷◌, length, Some, None, Result, Ok, Err, refl, sym, ap, ◌∙◌, arith}
 use Rattle.std.proofs.lemmas.Bool.{cond-false, ne_eqb}
 use Rattle.mls_private_message.specs.declared.sender_data.SenderData.{SenderData}
 use Rattle.mls_private_message.specs.SenderData.{sender_data, only_value, whole_sender_data}

@@ -1,5 +1,5 @@
 -- The laws of private messages: what was sealed opens, and a content is read as it was written (RFC 9420, 6.3).
-use Rattle.std.specs.Prelude.{◌≡◌, ℕ, List, length, replicate, ◌++◌, Result, Ok}
+use Rattle.std.specs.Prelude.{◌≡◌, ℕ, List, Ok}
 use Rattle.mls_wire.specs.Format.{IsBytes}
 use Rattle.mls_suite.specs.Crypto.{Crypto}
 use Rattle.mls_secret_tree.specs.declared.secrets.MessageKey.{MessageKey}

@@ -1,9 +1,9 @@
 -- Which numbers the readings of private messages answer.
-use Rattle.std.specs.Prelude.{ℕ, ◌==◌, if◌then◌else◌, Ok, Err, refl}
+use Rattle.std.specs.Prelude.{◌==◌, if◌then◌else◌, Ok, Err, refl}
 use Rattle.std.specs.Int.{w8}
 use Rattle.std.proofs.Common.{lit<}
 use Rattle.mls_wire.specs.Reading.{mark_at, uint_at}
-use Rattle.mls_wire.specs.ReadFaults.{HasFaults, PassesWith, answered_then, answered_if, uint_answered, pair_faults, behind_faults, behind_answered, mark_faults, seen_answered, byte_string_faults, uint32_faults, uint64_faults}
+use Rattle.mls_wire.specs.ReadFaults.{HasFaults, PassesWith, answered_then, answered_if, uint_answered, pair_faults, behind_faults, mark_faults, seen_answered, byte_string_faults, uint32_faults, uint64_faults}
 use Rattle.mls_private_message.specs.SenderData.{sender_data}
 use Rattle.mls_private_message.specs.PrivateMessage.{application_type, private_fields, private_message}
 

@@ -1,5 +1,5 @@
 -- A proposal is short where its KeyPackage or its leaf is.
-use Rattle.std.proofs.Common.{ℕ, ◌-◌, ◌<◌, ◌^◌, List, arith, lit<, length-append}
+use Rattle.std.proofs.Common.{ℕ, ◌-◌, ◌<◌, ◌^◌, arith, lit<, length-append}
 use Rattle.std.specs.Int.{w16}
 use Rattle.mls_wire.specs.Reading.{uint}
 use Rattle.mls_leaf.specs.KeyPackage.{key_package}

@@ -1,5 +1,5 @@
 -- What was saved of a good member's epoch is loaded.
-use Rattle.std.proofs.Common.{◌≡◌, ℕ, ◌≤◌, nat_le, ◌==◌, Bool, true, false, List, Option, Result, Ok, Err, is_some, reverse, length, refl, sym, ap, subst}
+use Rattle.std.proofs.Common.{◌≡◌, ℕ, ◌≤◌, nat_le, ◌==◌, Bool, true, false, List, Option, Result, Ok, Err, is_some, reverse, length, refl, sym, subst}
 use Rattle.std.specs.Str.{bytes_eq}
 use Rattle.std.proofs.lemmas.Bool.{leb-true, le-leb}
 use Rattle.std.proofs.lemmas.List.{reverse-reverse}
@@ -7,7 +7,6 @@ use Rattle.mls_tree_model.proofs.SetLaws.{eqb_refl}
 use Rattle.std.proofs.lemmas.Slice.Eq.{bytes_eq-Decides}
 use Rattle.std.specs.List.{list_all}
 use Rattle.mls_wire.specs.Checks.{passed, require, ◌>>◌}
-use Rattle.mls_leaf.specs.declared.leaf.LeafNode.{LeafNode}
 use Rattle.mls_suite.specs.Crypto.{Crypto}
 use Rattle.mls_tree_model.specs.Term.{Term, leaf_of, height}
 use Rattle.mls_tree_model.specs.Arrays.{to_nodes, from_nodes}

@@ -1,7 +1,6 @@
 -- A commit of extensions without a path has a spelling, if it is short.
 use Rattle.std.proofs.Common.{◌≡◌, ℕ, ◌<◌, ◌^◌, true, List, [], ◌∷◌, ◌++◌, length, None, arith, lit<}
 use Rattle.std.specs.Int.{w8, w16}
-use Rattle.std.specs.List.{flat_map}
 use Rattle.mls_wire.specs.Combine.{optional}
 use Rattle.mls_wire.specs.Reading.{uint, header, opaque}
 use Rattle.mls_leaf.specs.GroupExtensions.{are_allowed, group_extensions}

@@ -1,8 +1,7 @@
 -- What a commit call listed in full has a spelling, since its message is within the limit.
-use Rattle.std.proofs.Common.{◌≡◌, ℕ, ◌<◌, ◌≤◌, ◌^◌, List, [], ◌∷◌, ◌++◌, length, Ok, subst, arith}
+use Rattle.std.proofs.Common.{ℕ, ◌<◌, ◌≤◌, ◌^◌, List, [], ◌∷◌, ◌++◌, length, subst, arith}
 use Rattle.std.specs.Int.{w8, w16, w64}
 use Rattle.std.specs.List.{flat_map, AllByRecursion}
-use Rattle.mls_wire.specs.Combine.{optional}
 use Rattle.mls_wire.specs.Reading.{uint, opaque}
 use Rattle.mls_leaf.specs.Limits.{input_limit}
 use Rattle.mls_types.specs.Commit.{proposal_or_ref, commit}
@@ -11,7 +10,6 @@ use Rattle.mls_types.specs.Message.{mls_message}
 use Rattle.mls_types.specs.PublicMessage.{public_message}
 use Rattle.mls_types.specs.Signed.{signed_content}
 use Rattle.mls_types.specs.SignedParts.{with_signature}
-use Rattle.mls_types.specs.UpdatePath.{update_path}
 use Rattle.mls_types.proofs.SignedParts.{signed_content_spelled}
 use Rattle.mls_types.specs.declared.commit.Commit.{Commit}
 use Rattle.mls_types.specs.declared.commit.ProposalOrRef.{ProposalOrRef}

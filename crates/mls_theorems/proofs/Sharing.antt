@@ -1,6 +1,6 @@
 -- A commit that a good member makes reaches the group: its maker, those that share its epoch, and those that it adds.
 use Rattle.std.proofs.Common.{◌≡◌, ℕ, ◌+◌, ◌<◌, ◌^◌, Bool, true, false, not, List, [], ◌∷◌, length, zip, Option, Some, None, Result, Ok, refl, sym, ap, subst, ◌∙◌, ◌⊎◌, inl, inr, arith, lit<}
-use Rattle.std.specs.Prelude.{◌≢◌, codes, map}
+use Rattle.std.specs.Prelude.{codes, map}
 use Rattle.std.specs.List.{AllByRecursion, list_any}
 use Rattle.std.specs.Str.{bytes_eq}
 use Rattle.std.proofs.lemmas.Bool.{and_parts, not-true}
@@ -24,7 +24,7 @@ use Rattle.mls_suite.specs.Crypto.{Crypto, Lawful}
 use Rattle.mls_treekem_model.specs.Seeds.{seal_seed}
 use Rattle.mls_schedule.specs.Epoch.{nine_secrets}
 use Rattle.mls_model.specs.declared.effect.Effect.{Effect}
-use Rattle.mls_model.specs.declared.effect.Effect.TheVariants.{Proposed, Known, Advanced, Removed}
+use Rattle.mls_model.specs.declared.effect.Effect.TheVariants.{Advanced}
 use Rattle.mls_model.specs.Agreement.{Agree, AgreeSecret, Keeps}
 use Rattle.mls_model.specs.MemberInvariant.{IsGoodPending, IsGoodIfPending, IsGoodMember, IsGoodCandidate}
 use Rattle.mls_model.specs.Candidate.{Candidate}
@@ -41,13 +41,13 @@ use Rattle.mls_model.specs.PublicState.{PublicState, Used}
 use Rattle.mls_model.proofs.Receipts.{did_take}
 use Rattle.mls_model.specs.Sharing.{ShareEpoch, SharesNext, IsAccepted, JoinsNext, ReachesGroup}
 use Rattle.mls_model.specs.Welcome.{unsigned_info, signed_info, secrets_with, welcome_message}
-use Rattle.mls_model.specs.Verdict.{own_pending, pending_or_received, verdict}
+use Rattle.mls_model.specs.Verdict.{verdict}
 use Rattle.mls_theorems.proofs.Joining.{adds_counted}
 use Rattle.mls_theorems.proofs.CommitEntries.{received_along}
 use Rattle.mls_theorems.proofs.Delivered.{pending_leads, delivered_good}
 use Rattle.mls_theorems.proofs.Entered.{are_from, joined_good}
 use Rattle.mls_theorems.proofs.Joiners.{JoinsBeside, joiners_beside}
-use Rattle.mls_theorems.specs.CommitCalls.{message_of, made_of, Makes, joiner_of, tag_of}
+use Rattle.mls_theorems.specs.CommitCalls.{made_of, Makes, joiner_of, tag_of}
 use Rattle.mls_theorems.proofs.Makes.{make_did}
 use Rattle.mls_theorems.proofs.One.{was_found}
 use Rattle.mls_theorems.proofs.Pends.{made_pends}

@@ -2,7 +2,6 @@
 use Rattle.std.proofs.Common.{◌≡◌, ℕ, suc, ◌+◌, ◌*◌, ◌^◌, ◌<◌, ◌++◌, Bool, true, List, [], length, take, reverse, replicate, All, Option, Some, None, sym, ◌∙◌, ap, subst, arith, add-one, length-append}
 use Rattle.std.specs.Prelude.{Result, Ok, Err, OnOk, OnErr}
 use Rattle.std.proofs.lemmas.List.{take_at, length-replicate}
-use Rattle.mls_leaf.specs.Parent.{Parent}
 use Rattle.mls_leaf.specs.declared.leaf.LeafNode.{LeafNode}
 use Rattle.mls_leaf.specs.declared.node.Node.{Node}
 use Rattle.mls_treemath.specs.Paths.{nodes_in}
@@ -14,10 +13,9 @@ use Rattle.mls_tree_model.specs.Term.{Term, size, is_perfect, leaf_of}
 use Rattle.mls_tree_model.specs.Edits.{put, enter, grow}
 use Rattle.mls_tree_model.specs.Merge.{merge, merge_path}
 use Rattle.mls_tree_model.specs.Arrays.{term_of, in_order}
-use Rattle.mls_tree_model.proofs.ArrayLaws.{perfect-term_of, size-term_of}
+use Rattle.mls_tree_model.proofs.ArrayLaws.{size-term_of}
 use Rattle.mls_tree_array.specs.Changes.{cells_on_way, AreBelow}
 use Rattle.mls_tree_array.specs.KeptHashes.{hashes_of, drop_hashes}
-use Rattle.mls_tree_array.specs.Merging.{path_parents}
 use Rattle.mls_tree_array.specs.Standing.{Stands}
 use Rattle.mls_tree_array.specs.StandingLaws.{StandsFor}
 use Rattle.mls_tree_array.specs.WayHashes.{way_hashes, IsColdOnWay, KeepsOnWay, keep_on_way}

@@ -21,7 +21,6 @@ use Rattle.mls_tree_array.specs.KeptHashes.{hashes_of, Keeps, drop_hashes, cold_
 use Rattle.mls_tree_cells.specs.Cells.{CellList}
 use Rattle.mls_tree_array.proofs.KeptLaws.{hashes_of_branch, length-hashes_of, left_part, right_part, dropped_leaf, dropped_left, dropped_right, cold-append, cold-cons, none_cold}
 use Rattle.mls_tree_array.specs.Merging.{path_parents}
-use Rattle.mls_tree_array.specs.StandingLaws.{StandsFor}
 use Rattle.mls_tree_array.specs.WayHashes.{way_hashes, HashesMerged, KeepsOnWay}
 use Rattle.mls_tree_array.proofs.ChangeLaws.{differ_merge}
 use Rattle.mls_tree_array.proofs.WayHashLaws.{length-way_hashes}

@@ -5,7 +5,7 @@ use Rattle.std.proofs.Math.Pow.{pow_mono}
 use Rattle.std.proofs.lemmas.Bool.{OnTrue_from, ltb-true, cases_lt, cond_both, cond-true, cond-false, true≢false, and_parts}
 use Rattle.mls_leaf.specs.declared.node.Node.{Node}
 use Rattle.mls_treemath.specs.Limits.{max_height}
-use Rattle.mls_tree_model.specs.Term.{Term, Leaf, Branch, width, leaf_of, leaf_at, has_leaf, is_perfect}
+use Rattle.mls_tree_model.specs.Term.{Term, Leaf, Branch, width, leaf_of, leaf_at, is_perfect}
 use Rattle.mls_tree_model.specs.Edits.{put, trim, remove}
 use Rattle.mls_tree_model.specs.Arrays.{term_of}
 use Rattle.mls_tree_model.proofs.ArrayLaws.{width-term_of, perfect-term_of}

@@ -1,5 +1,5 @@
 -- What edits make of the cells of a whole tree.
-use Rattle.std.specs.Prelude.{◌≡◌, suc, ◌+◌, ◌^◌, ◌++◌, ℕ, List, replicate, Option, Some, None}
+use Rattle.std.specs.Prelude.{◌≡◌, suc, ◌+◌, ◌^◌, ◌++◌, ℕ, replicate, Option, None}
 use Rattle.mls_leaf.specs.declared.leaf.LeafNode.{LeafNode}
 use Rattle.mls_treemath.specs.Paths.{nodes_in}
 use Rattle.mls_tree_cells.specs.Cells.{CellList}

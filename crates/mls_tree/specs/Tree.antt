@@ -1,5 +1,5 @@
 -- A public tree as a value, and what its calls answer.
-use Rattle.std.specs.Prelude.{◌≡◌, ℕ, ◌^◌, List, Option, Result, Ok}
+use Rattle.std.specs.Prelude.{ℕ, ◌^◌, List, Option, Result, Ok}
 use Rattle.mls_wire.specs.Checks.{require, require_some, ◌>>◌}
 use Rattle.mls_wire.specs.Reading.{◌>>=◌}
 use Rattle.mls_leaf.specs.declared.node.Node.{Node}

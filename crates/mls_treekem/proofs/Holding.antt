@@ -1,5 +1,5 @@
 -- Whether a member's private keys are exactly those that are due, as code goes over the nodes.
-use Rattle.std.proofs.Common.{◌≡◌, ℕ, zero, suc, ◌+◌, ◌-◌, ◌*◌, ◌^◌, ◌<◌, ◌≤◌, nat_lt, nat_le, Bool, true, false, ◌&&◌, List, [], ◌∷◌, length, map, Option, Some, refl, sym, subst, ◌∙◌, ap, ap₂, inl, inr, arith, lt-ltb, le-ltb, le-leb}
+use Rattle.std.proofs.Common.{◌≡◌, ℕ, zero, suc, ◌+◌, ◌-◌, ◌*◌, ◌^◌, ◌<◌, ◌≤◌, Bool, true, false, ◌&&◌, List, [], ◌∷◌, length, map, Option, Some, refl, sym, subst, ◌∙◌, ap, ap₂, inl, inr, arith, lt-ltb, le-ltb, le-leb}
 use Rattle.std.specs.Int.{w32, trailing_zeros}
 use Rattle.std.proofs.lemmas.Bool.{cases_lt, cond-true, cond-false, and_parts, true≢false, lt-leb}
 use Rattle.std.proofs.lemmas.List.{length-map}
@@ -7,7 +7,7 @@ use Rattle.mls_leaf.specs.Parent.{Parent}
 use Rattle.mls_leaf.specs.declared.leaf.LeafNode.{LeafNode}
 use Rattle.mls_suite.specs.Crypto.{Crypto}
 use Rattle.mls_tree_model.specs.Term.{Term, Leaf, Branch, width, height, is_perfect, leaf_at, leaf_of}
-use Rattle.mls_tree_model.specs.Way.{Step, way}
+use Rattle.mls_tree_model.specs.Way.{way}
 use Rattle.mls_tree_model.specs.Arrays.{parent_in, node_at}
 use Rattle.mls_tree_model.proofs.ShapeLaws.{width-perfect}
 use Rattle.mls_tree.specs.Tree.{Tree, term}

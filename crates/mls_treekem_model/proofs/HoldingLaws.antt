@@ -1,5 +1,5 @@
 -- Whether a member's private keys are exactly those that are due.
-use Rattle.std.proofs.Common.{◌≡◌, ℕ, ◌≤◌, nat_le, not, ◌&&◌, Bool, true, false, List, [], ◌∷◌, length, Option, Some, None, refl, ap, ap₂, sym, ◌∙◌, le-leb, leb-true}
+use Rattle.std.proofs.Common.{◌≡◌, ℕ, nat_le, not, ◌&&◌, Bool, true, false, List, [], ◌∷◌, length, Option, Some, None, refl, ap, ap₂, sym, ◌∙◌, le-leb, leb-true}
 use Rattle.std.specs.Str.{bytes_eq}
 use Rattle.std.proofs.lemmas.Bool.{and_parts, true≢false}
 use Rattle.std.proofs.lemmas.Slice.Eq.{bytes_eq-Decides}
@@ -7,10 +7,10 @@ use Rattle.mls_leaf.specs.Parent.{Parent}
 use Rattle.mls_leaf.specs.declared.leaf.LeafNode.{LeafNode}
 use Rattle.mls_suite.specs.Crypto.{Crypto}
 use Rattle.mls_tree_model.specs.Sets.{has}
-use Rattle.mls_tree_model.specs.Term.{Term, leaf_at}
+use Rattle.mls_tree_model.specs.Term.{leaf_at}
 use Rattle.mls_tree_model.specs.Way.{Step, way}
 use Rattle.mls_treekem_model.specs.Holding.{holds_at, holds_own, holds_along, holds_exact, ExactIsHeld, HeldIsExact}
-use Rattle.mls_treekem_model.specs.Keys.{Keys, PrivateKeys, HoldsDueKey, HoldsKey, IsOwnKey, AreKeysAlong, keys_on, HasExact}
+use Rattle.mls_treekem_model.specs.Keys.{Keys, HoldsDueKey, HoldsKey, IsOwnKey, AreKeysAlong, keys_on}
 
 -- a key is that of a public key just where the test says so
 same_key : (a b : List ℕ) → a ≡ b → bytes_eq a b ≡ true

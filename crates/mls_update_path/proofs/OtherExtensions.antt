@@ -10,7 +10,7 @@ use Rattle.mls_types.specs.declared.update_path.UpdatePathNode.{UpdatePathNode}
 use Rattle.mls_suite.specs.Crypto.{Crypto, Lawful}
 use Rattle.mls_tree_model.specs.Term.{Term}
 use Rattle.mls_tree_model.specs.Way.{way}
-use Rattle.mls_treekem_model.specs.Make.{Climb, climb_make}
+use Rattle.mls_treekem_model.specs.Make.{climb_make}
 use Rattle.mls_treekem_model.specs.Seal.{sealed_path}
 use Rattle.mls_treekem_model.specs.Seeds.{path_seed, seal_seed}
 use Rattle.mls_treekem_model.proofs.WholeLaws.{sealed_where_fit, refused_where_unfit}

@@ -1,5 +1,5 @@
 -- Values whose numbers are in range.
-use Rattle.std.specs.Prelude.{◌≡◌, ℕ, ◌<◌, ◌^◌, true, IfSome}
+use Rattle.std.specs.Prelude.{◌≡◌, ◌<◌, ◌^◌, true, IfSome}
 use Rattle.std.specs.List.{AllByRecursion}
 use Rattle.mls_wire.specs.Combine.{optional}
 use Rattle.mls_leaf.specs.GroupExtensions.{are_allowed}

@@ -1,4 +1,4 @@
-use Rattle.std.proofs.Common.{◌≡◌, Bool, true, false, arith, sym}
+use Rattle.std.proofs.Common.{◌≡◌, true, false, arith, sym}
 use Rattle.std.specs.Str.{bytes_eq}
 use Rattle.mls_cli_explain.specs.Explain.{name_told}
 use Rattle.mls_cli_explain.proofs.Naming.{further, here, nowhere}

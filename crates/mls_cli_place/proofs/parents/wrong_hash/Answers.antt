@@ -1,4 +1,4 @@
-use Rattle.std.proofs.Common.{◌≡◌, ◌∙◌, subst, sym, refl}
+use Rattle.std.proofs.Common.{◌≡◌, subst, sym, refl}
 use Rattle.std.specs.Prelude.{IfOk}
 use Rattle.mls_tree.proofs.KeptHashes.{cold_by}
 use Rattle.mls_tree_model.proofs.FirstLaws.{all_lists, hash_by_lists}

@@ -1,4 +1,4 @@
-use Rattle.std.proofs.Common.{◌≡◌, drop, option_map, List, ℕ}
+use Rattle.std.proofs.Common.{◌≡◌, drop, option_map}
 use Rattle.serde_json.specs.View.{items_view}
 use Rattle.mls_cli_recording.specs.Calls.{texts_view}
 use Rattle.mls_cli_recording.specs.Recording.{texts_in}

@@ -1,12 +1,8 @@
-use Rattle.std.proofs.Common.{◌≡◌, ◌^◌, sym, subst, ap}
-use Rattle.std.specs.List.{zip}
+use Rattle.std.proofs.Common.{◌^◌, sym, subst}
 use Rattle.std.proofs.lemmas.Result.{err_from_is_err_and}
 use Rattle.mls_tree_model.specs.Term.{Term}
 use Rattle.mls_tree.specs.Tree.{term}
-use Rattle.mls_types.specs.declared.commit.Commit.{Commit}
-use Rattle.mls_model.specs.Commit.{Edits}
 use Rattle.mls_model.specs.Make.{path_seals}
-use Rattle.mls_model.specs.Proposals.{adds}
 use Rattle.mls_public_group.specs.Short.{HasLeavesBelow}
 use Rattle.mls_make.specs.Faults.{number_of}
 use Rattle.mls_make.proofs.Fitting.{commit_fits_if_short}

@@ -1,4 +1,4 @@
-use Rattle.std.proofs.Common.{◌≡◌, arith, sym, ◌∙◌, ap}
+use Rattle.std.proofs.Common.{arith, sym, ◌∙◌, ap}
 use Rattle.std.proofs.lemmas.List.{take_all}
 use Rattle.mls_private_message.specs.Keys.{xor_front, guarded_nonce}
 use Rattle.mls_private_message.proofs.Guards.{xor_nothing, xor_more}

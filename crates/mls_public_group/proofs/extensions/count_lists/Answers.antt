@@ -1,4 +1,4 @@
-use Rattle.std.proofs.Common.{arith, length}
+use Rattle.std.proofs.Common.{arith}
 use Rattle.mls_public_group.proofs.Folding.{lists_more, lists_over}
 use Rattle.mls_public_group.proofs.extensions.count_lists.Goals as goal
 

@@ -1,4 +1,4 @@
-use Rattle.std.proofs.Common.{◌+◌, ◌-◌, ◌*◌, ◌%◌, ◌^◌, ◌∙◌, take, ap, sym, refl, arith, subst}
+use Rattle.std.proofs.Common.{◌-◌, ◌∙◌, take, ap, sym, refl, arith, subst}
 use Rattle.mls_treemath.proofs.Sizes.{nodes_in_pos}
 use Rattle.mls_tree.specs.IndexedKeys.{AreIndexes}
 use Rattle.mls_tree_array.proofs.StandingLaws.{height-term_of, trimmed_front}

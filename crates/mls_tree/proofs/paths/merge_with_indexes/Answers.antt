@@ -1,5 +1,4 @@
-use Rattle.std.proofs.Common.{[], refl, reverse, ◌∙◌, subst, arith}
-use Rattle.mls_leaf.specs.declared.leaf.LeafNode.{LeafNode}
+use Rattle.std.proofs.Common.{[], refl, reverse, ◌∙◌, arith}
 use Rattle.mls_tree.specs.Way.{way_numbers}
 use Rattle.mls_tree.proofs.CellEdits.{merge_fits, path_merged, beside_merge, on_ok}
 use Rattle.mls_tree.proofs.Indexing.{same_indexes, left_beside, entered_beside, kept_client, way_once, less_room}

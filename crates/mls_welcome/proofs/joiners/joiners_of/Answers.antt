@@ -1,4 +1,4 @@
-use Rattle.std.proofs.Common.{◌≡◌, arith}
+use Rattle.std.proofs.Common.{arith}
 use Rattle.std.proofs.lemmas.Grind.{common_steps}
 use Rattle.mls_model.specs.Proposals.{adds}
 use Rattle.mls_welcome.proofs.joiners.joiners_of.Goals as goal

@@ -1,5 +1,4 @@
-use Rattle.std.proofs.Common.{sym, subst, ◌^◌}
-use Rattle.mls_leaf.specs.KeyPackage.{key_package}
+use Rattle.std.proofs.Common.{sym, subst}
 use Rattle.mls_leaf.specs.declared.key_package.KeyPackage.{KeyPackage}
 use Rattle.mls_leaf.specs.declared.proposal.Proposal.TheVariants.{Add}
 use Rattle.mls_public_group.specs.ShortProposal.{IsShortProposal}

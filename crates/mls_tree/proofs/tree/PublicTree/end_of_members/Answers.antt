@@ -1,4 +1,4 @@
-use Rattle.std.proofs.Common.{◌≤◌, ap, subst, sym}
+use Rattle.std.proofs.Common.{◌≤◌, subst}
 use Rattle.mls_tree_array.specs.EndOfMembers.{end_of_members}
 use Rattle.mls_tree.specs.Tree.{term}
 use Rattle.mls_tree.proofs.Removing.{end_bound}

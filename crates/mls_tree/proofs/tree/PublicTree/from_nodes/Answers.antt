@@ -1,4 +1,4 @@
-use Rattle.std.proofs.Common.{true, false, Ok, refl, subst, ap, ◌∙◌, sym, length, arith}
+use Rattle.std.proofs.Common.{true, false, Ok, refl, subst, ap, ◌∙◌, sym, arith}
 use Rattle.std.proofs.lemmas.Nat.{one_shl}
 use Rattle.mls_tree.proofs.Checked.{size_fits}
 use Rattle.mls_tree.proofs.KeptHashes.{cold_by}

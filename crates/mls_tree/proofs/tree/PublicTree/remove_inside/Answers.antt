@@ -1,4 +1,4 @@
-use Rattle.std.proofs.Common.{arith, ap, ◌∙◌, refl}
+use Rattle.std.proofs.Common.{arith, ap, refl}
 use Rattle.mls_tree.specs.Tree.{term}
 use Rattle.mls_tree.proofs.KeptHashes.{kept_long, kept-put}
 use Rattle.mls_tree.proofs.Removing.{blanked, removed_inside}

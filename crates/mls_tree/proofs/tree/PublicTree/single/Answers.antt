@@ -1,8 +1,7 @@
-use Rattle.std.proofs.Common.{◌∷◌, [], Some, length, refl, arith, subst, sym, ap, ◌∙◌}
+use Rattle.std.proofs.Common.{length, refl, arith, subst, sym, ap, ◌∙◌}
 use Rattle.mls_treemath.proofs.Sizes.{nodes_in-zero}
 use Rattle.mls_tree.proofs.KeptHashes.{cold_by}
 use Rattle.mls_tree.proofs.Bounding.{unknown}
-use Rattle.mls_tree_model.specs.Arrays.{leaf_cell}
 use Rattle.mls_tree_model.specs.Good.{IsGood}
 use Rattle.mls_tree_model.proofs.KeptLaws.{good_single}
 use Rattle.mls_tree.proofs.Singles.{single_stands}

@@ -1,7 +1,7 @@
-use Rattle.std.proofs.Common.{refl, ◌&&◌, nat_eq, sym, ◌∙◌, ap, subst, arith}
+use Rattle.std.proofs.Common.{refl, ◌&&◌, nat_eq, sym, ◌∙◌, ap, subst}
 use Rattle.std.proofs.lemmas.Bool.{and_parts}
 use Rattle.mls_tree_index.specs.Blocks.{joined, place_of}
-use Rattle.mls_tree_index.specs.Entries.{AreOrdered, front_of, numbers_of}
+use Rattle.mls_tree_index.specs.Entries.{AreOrdered, numbers_of}
 use Rattle.mls_tree_index.specs.Indexes.{Listing}
 use Rattle.mls_tree_index.specs.Keys.{is_held, is_key, key_in}
 use Rattle.mls_tree_index.specs.Searches.{IsPlaceOf}

@@ -1,5 +1,5 @@
 use Rattle.std.proofs.lemmas.Result.{err_from_is_err_and}
-use Rattle.std.proofs.Common.{reverse, sym, ◌∙◌, ap}
+use Rattle.std.proofs.Common.{reverse, ◌∙◌, ap}
 use Rattle.std.proofs.lemmas.List.{nil_from_length}
 use Rattle.mls_tree.specs.Tree.{term}
 use Rattle.mls_treekem_model.specs.Open.{first_ciphertexts}

@@ -1,4 +1,4 @@
-use Rattle.std.proofs.Common.{drop, refl, sym, ◌∙◌, ◌+◌, ap, arith, subst, List}
+use Rattle.std.proofs.Common.{drop, refl, sym, ◌∙◌, ◌+◌, arith, subst, List}
 use Rattle.std.proofs.lemmas.List.{drop-drop}
 use Rattle.mls_types.specs.declared.update_path.HpkeCiphertext.{HpkeCiphertext}
 use Rattle.mls_types.specs.Ciphertexts.{ciphertext_lent}
