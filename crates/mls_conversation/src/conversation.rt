@@ -1,12 +1,15 @@
 //! A conversation.
 
 ghost use Rattle.std.specs.Prelude.{◌≡◌};
+ghost use Rattle.std.specs.Option.{option_copied};
+ghost use Rattle.mls_exchange.specs.State.{member_at};
 ghost use Rattle.mls_exchange.specs.Calls.{Seals, RefusesSealing, Opens, RefusesArrival};
 ghost use Rattle.mls_conversation.specs.Conversation.{MakesConversation, RefusesConversation, TakesParts};
 
 use crate::ConversationError;
 use mls_exchange::{Exchange, ExchangeError, Opened, Parts};
 use mls_kdf::Seed;
+use mls_leaf::LeafNode;
 use mls_member::Member;
 use mls_secret_tree::SecretTree;
 use mls_suite::Suite;
@@ -59,7 +62,8 @@ fn parts_of<S: Suite>(
 impl<S: Suite> Conversation<S> {
     /// The conversation of a member in its epoch, in which no key was used yet. `Gone` (40) where the member was removed;
     /// `TreeShape` (20) where its tree has no height, which no good member's answers. Whoever makes two conversations of
-    /// one member in one epoch must not seal with both: they begin with the same keys.
+    /// one member in one epoch must not seal with both: they begin with the same keys. So a member that was loaded, and may
+    /// have sealed in its epoch before, is to commit first; one that was saved opens what the whole epoch sealed.
     pub fn of(alloc: Global, member: &Member<S>) -> Result<Conversation<S>, ConversationError>
         ensures answer { MakesConversation member.now result }
         // Both numbers come also when an allocation fails.
@@ -92,10 +96,18 @@ impl<S: Suite> Conversation<S> {
         self.exchange.group_id()
     }
 
+    /// The leaf of the member at an index, as the tree of this epoch has it, or None where that is blank or outside: the
+    /// member may have left since, and another may have its leaf.
+    pub fn leaf_at(&self, leaf: u32) -> Option<&LeafNode>
+        ensures { option_copied result ≡ member_at self.now.nodes leaf }
+    {
+        self.exchange.leaf_at(leaf)
+    }
+
     /// Seals application data, with authenticated data that isn't encrypted and so many bytes of padding, under the key of
     /// the member's next generation (RFC 9420, 6.3 and 9.1), which is gone afterwards. The seed gives the reuse guard.
-    /// `RatchetSpent` (110) after the last generation, `TooLong` (6) where an argument, the content or the message is
-    /// longer than an input may be. A refusal changes nothing.
+    /// `RatchetSpent` (110) after the last generation, `TooLong` (6) where an argument, what is signed, the content or the
+    /// message is longer than an input may be. A refusal changes nothing.
     pub fn seal(
         &mut self,
         application_data: &[u8],
@@ -117,8 +129,9 @@ impl<S: Suite> Conversation<S> {
     /// bytes that are no PrivateMessage with application data; `OtherGroup` (111), `OtherEpoch` (112);
     /// `SenderDataUnreadable` (113) the sender data doesn't open, `SenderWithoutLeaf` (114) no member is at the sender's
     /// leaf, `GenerationTooFar` (115) its generation is too far ahead, `KeyUsed` (116) its key was used,
-    /// `ContentUnreadable` (117) the content doesn't open; the content's first fault, `PaddingNotZero` (118) its padding
-    /// isn't zeros, `BadMessageSignature` (119) its signature doesn't verify. A refusal changes nothing.
+    /// `ContentUnreadable` (117) the content doesn't open; `TooLong` (6) the content or what is signed is longer than an
+    /// input may be; the content's first fault, `PaddingNotZero` (118) its padding isn't zeros, `BadMessageSignature`
+    /// (119) its signature doesn't verify. A refusal changes nothing.
     pub fn open(&mut self, bytes: &[u8]) -> Result<Opened, ExchangeError>
         ensures answer { Opens S.crypto bytes.now self.old self.new result }
         // Faults of the bytes, 111 and 112 come also when an allocation fails.

@@ -14,4 +14,4 @@ pub use laws::{
     arrives_once_at_members, conversations_share, fresh_keys, members_share_epochs,
     messages_arrive, sealed_arrives_at_members,
 };
-pub use mls_exchange::{ExchangeError, Opened};
+pub use mls_exchange::{ExchangeError, MessageKind, MessagePlace, Opened, message_place};

@@ -130,4 +130,11 @@ impl<S: Suite> Exchange<S> {
     {
         self.parts.leaf
     }
+
+    /// The leaf of the member at an index, as the tree of the epoch has it, or None where that is blank or outside.
+    pub fn leaf_at(&self, leaf: u32) -> Option<&LeafNode>
+        ensures { option_copied result ≡ member_at self.now.nodes leaf }
+    {
+        member_at(&self.parts.nodes, leaf)
+    }
 }

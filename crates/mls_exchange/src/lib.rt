@@ -8,6 +8,7 @@ mod error;
 mod exchange;
 mod laws;
 mod open;
+mod place;
 mod said;
 mod seal;
 
@@ -18,3 +19,4 @@ pub use laws::{
     opens_once, sealed_arrives, used_keys_are_gone,
 };
 pub use open::Opened;
+pub use place::{MessageKind, MessagePlace, message_place};

@@ -148,8 +148,9 @@ impl<S: Suite> Exchange<S> {
     /// bytes that are no PrivateMessage with application data; `OtherGroup` (111), `OtherEpoch` (112);
     /// `SenderDataUnreadable` (113) the sender data doesn't open, `SenderWithoutLeaf` (114) no member is at the sender's
     /// leaf, `GenerationTooFar` (115) its generation is too far ahead, `KeyUsed` (116) its key was used,
-    /// `ContentUnreadable` (117) the content doesn't open; the content's first fault, `PaddingNotZero` (118) its padding
-    /// isn't zeros, `BadMessageSignature` (119) its signature doesn't verify. A refusal changes nothing.
+    /// `ContentUnreadable` (117) the content doesn't open; `TooLong` (6) the content or what is signed is longer than an
+    /// input may be; the content's first fault, `PaddingNotZero` (118) its padding isn't zeros, `BadMessageSignature`
+    /// (119) its signature doesn't verify. A refusal changes nothing.
     pub fn open(&mut self, bytes: &[u8]) -> Result<Opened, ExchangeError>
         ensures answer { Opens S.crypto bytes.now self.old self.new result }
         // Faults of the bytes, 111 and 112 come also when an allocation fails.

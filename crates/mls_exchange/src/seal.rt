@@ -146,8 +146,8 @@ impl<S: Suite> Exchange<S> {
 
     /// Seals application data, with authenticated data that isn't encrypted and so many bytes of padding, under the key of
     /// the member's next generation (RFC 9420, 6.3 and 9.1), which is gone afterwards. The seed gives the reuse guard.
-    /// `RatchetSpent` (110) after the last generation, `TooLong` (6) where an argument, the content or the message is
-    /// longer than an input may be. A refusal changes nothing.
+    /// `RatchetSpent` (110) after the last generation, `TooLong` (6) where an argument, what is signed, the content or the
+    /// message is longer than an input may be. A refusal changes nothing.
     pub fn seal(
         &mut self,
         application_data: &[u8],
