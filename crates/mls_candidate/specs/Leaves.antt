@@ -38,18 +38,6 @@ abbrev pub RenewsWithKey : {E : Type 0} → Crypto → List ℕ → List ℕ →
 RenewsWithKey c signing group i old source key result =
     IfOk result (λ leaf. leaf ≡ leaf_with_key c signing group i old source key)
 
--- a leaf that replaces the old one in a group: its encryption key is made of the seed, its signature key and its
--- credential are the old one's, and it is signed (RFC 9420, 7.2)
-abbrev pub renewed_leaf : Crypto → List ℕ → List ℕ → ℕ → LeafNode → LeafSource → List ℕ → LeafNode
-renewed_leaf c signing group i old source seed =
-    leaf_with_key c signing group i old source (public_leaf_key c seed)
-
--- The leaf that a call answers is the old one renewed.
-abbrev pub Renews : {E : Type 0} → Crypto → List ℕ → List ℕ → ℕ → LeafNode → LeafSource → List ℕ →
-    Result LeafNode E → Type 0
-Renews c signing group i old source seed result =
-    IfOk result (λ leaf. leaf ≡ renewed_leaf c signing group i old source seed)
-
 -- the KeyPackage that a candidate of an identity and a seed offers (RFC 9420, 10)
 abbrev pub offered_package : Crypto → List ℕ → List ℕ → KeyPackage
 offered_package c identity seed =

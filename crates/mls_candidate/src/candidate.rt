@@ -113,8 +113,8 @@ impl<S: Suite> Candidate<S> {
     }
 
     /// The candidate that was saved as these bytes: decoding, `OtherSuite` (100) another suite, `BadSecret` (101) a secret
-    /// that hasn't 32 bytes, 50 to 57 and `BadKey` (36) the checks of its KeyPackage, `OtherKey` (104) a private key that
-    /// isn't that of the public key that is offered.
+    /// that hasn't 32 bytes, 50 to 52, 56, 57 and `BadKey` (36) the checks of its KeyPackage, `OtherKey` (104) a private
+    /// key that isn't that of the public key that is offered.
     pub fn load(alloc: Global, bytes: &[u8]) -> Result<Candidate<S>, CandidateLoadError>
         ensures answer { Loads number_of (load_candidate S.crypto bytes.now) result }
         ensures good { IfOk result (IsGoodCandidate S.crypto) }

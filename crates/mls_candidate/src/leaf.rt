@@ -6,7 +6,7 @@ ghost use Rattle.mls_leaf.specs.declared.leaf.LeafSource.TheVariants.{KeyPackage
 ghost use Rattle.mls_public_group.specs.Short.{IsBelow};
 ghost use Rattle.mls_candidate.specs.Short.{IsShortSource, IsShortLeaf};
 ghost use Rattle.mls_model.specs.Candidate.{leaf_key_of, made_capabilities, signed_leaf};
-ghost use Rattle.mls_candidate.specs.Leaves.{IsLeafOf, IsPublicKey, Renews, RenewsWithKey, public_leaf_key};
+ghost use Rattle.mls_candidate.specs.Leaves.{IsLeafOf, IsPublicKey, RenewsWithKey, public_leaf_key};
 
 use mls_kdf::{Secret, Seed};
 use mls_leaf::{
@@ -24,14 +24,6 @@ pub fn leaf_pair<S: Suite>(alloc: Global, seed: &Seed) -> Result<KeyPair, OutOfM
     ensures public { IfOk result (λ pair. pair.pk.items ≡ public_leaf_key S.crypto seed.now) }
 {
     S::derive_key_pair(alloc, &leaf_seed(seed))
-}
-
-/// The private key of the leaf that is made of a seed.
-pub fn leaf_key<S: Suite>(alloc: Global, seed: &Seed) -> Result<Secret, OutOfMemory>
-    ensures { IfOk result (λ k. k ≡ leaf_key_of S.crypto seed.now) }
-{
-    let pair = leaf_pair::<S>(alloc, seed)?;
-    Ok(pair.sk)
 }
 
 /// One number.
@@ -155,27 +147,4 @@ pub fn renewed_leaf_with_key<S: Suite>(
     let credential = old.credential.clone()?;
     let leaf = unsigned_leaf::<S>(alloc, encryption_key, signature_key, credential, source)?;
     sign_leaf::<S>(alloc, signing, group_id, index, leaf)
-}
-
-/// A leaf that replaces another in a group: its encryption key is made of the seed, its signature key and its
-/// credential are those of the old one, and it is signed (RFC 9420, 7.2). A parent hash in its source has at most 32
-/// bytes.
-pub fn renewed_leaf<S: Suite>(
-    alloc: Global,
-    signing: &Secret,
-    group_id: &[u8],
-    index: u32,
-    old: &LeafNode,
-    source: LeafSource,
-    seed: &Seed,
-) -> Result<LeafNode, OutOfMemory>
-    requires old { IsBelow (2 ^ 27) leaf_node old.now }
-    requires group { length group_id.now < 2 ^ 28 }
-    requires source { IsShortSource source }
-    ensures leaf { Renews S.crypto signing.now group_id.now index old.now source seed.now result }
-    // It isn't much longer than the old one.
-    ensures below { IfOk result (λ leaf. IsBelow (2 ^ 28) leaf_node leaf) }
-{
-    let KeyPair { pk, .. } = leaf_pair::<S>(alloc, seed)?;
-    renewed_leaf_with_key::<S>(alloc, signing, group_id, index, old, source, pk)
 }

@@ -11,5 +11,5 @@ mod texts;
 
 pub use candidate::Candidate;
 pub use error::CandidateError;
-pub use leaf::{leaf_key, leaf_pair, renewed_leaf, renewed_leaf_with_key};
+pub use leaf::{leaf_pair, renewed_leaf_with_key};
 pub use load_error::CandidateLoadError;

@@ -1,8 +1,10 @@
 -- A good member stays good over each call, and a commit that it makes reaches the group.
 use Rattle.std.proofs.Common.{◌≡◌, ℕ, Bool, true, false, not, List, [], ◌∷◌, Option, Some, None, Result, Ok, Err, refl, sym, ap, subst, ◌∙◌}
-use Rattle.std.specs.Prelude.{IfOk}
+use Rattle.std.specs.Prelude.{IfOk, is_some}
 use Rattle.std.specs.Global.{Vec}
-use Rattle.std.specs.List.{AllByRecursion}
+use Rattle.std.specs.List.{AllByRecursion, filter}
+use Rattle.std.proofs.lemmas.Bool.{true≢false}
+use Rattle.std.proofs.lemmas.List.Elements.{All-filter, All-from_recursion, recursion_from_All}
 use Rattle.mls_wire.specs.Checks.{passed, DoesAs}
 use Rattle.mls_wire.specs.Format.{IsBytes}
 use Rattle.mls_wire.specs.Laws.{bind_ok, ok_is}
@@ -21,7 +23,7 @@ use Rattle.mls_checks.specs.Checks.{key_package_checks}
 use Rattle.mls_tree.specs.Tree.{member_at}
 use Rattle.mls_model.specs.declared.effect.Effect.{Effect}
 use Rattle.mls_model.specs.declared.effect.Effect.TheVariants.{Advanced}
-use Rattle.mls_model.specs.MemberInvariant.{IsGoodMember, IsGoodCandidate}
+use Rattle.mls_model.specs.MemberInvariant.{IsGoodCandidate, IsGoodIfPending, IsGoodKept, IsGoodMember}
 use Rattle.mls_model.specs.Candidate.{Candidate, leaf_key_of}
 use Rattle.mls_model.specs.Join.{join_verdict}
 use Rattle.mls_model.specs.Make.{commit_call}
@@ -37,13 +39,14 @@ use Rattle.mls_theorems.proofs.Delivered.{delivered_good}
 use Rattle.mls_theorems.proofs.Entered.{joined_good}
 use Rattle.mls_theorems.proofs.Proposing.{added_good, updated_good, removed_good, extended_good}
 use Rattle.mls_theorems.specs.SpelledParts.{FullFits}
-use Rattle.mls_theorems.proofs.UnchangedMembers.{good_still}
+use Rattle.mls_theorems.proofs.UnchangedMembers.{good_still, still}
 use Rattle.mls_make.specs.CommitCall.{AreShortUsed}
 use Rattle.mls_member.specs.declared.commit.Made.{Made}
 use Rattle.mls_member.specs.declared.error.Refusal.{Refusal}
 use Rattle.mls_member.specs.Answers.{messages_of, ReachesAll}
 use Rattle.mls_member.specs.Faults.{number_of}
 use Rattle.mls_member.specs.FirstEpoch.{first_public}
+use Rattle.mls_member.specs.KeptProposals.{is_other}
 use Rattle.mls_member.specs.Proposing.{send_and_keep, updated_answer}
 use Rattle.mls_member.proofs.FirstEpoch.{created_made}
 
@@ -66,6 +69,19 @@ join_good c k bytes public epoch keys info signing kept good verdict_is signing_
 
 pub drop_good : (c : Crypto) (m : Member) → IsGoodMember c m → IsGoodMember c (record { gone = m.gone; public = m.public; epoch_secret = m.epoch_secret; keys = m.keys; signing = m.signing; kept = m.kept; pending = None })
 drop_good c m good = good_still c m m.gone m.kept None good good.kept tt
+
+-- no pending commit is a good one
+none_good : (c : Crypto) (m : Member) (pending : Option Pending) → is_some pending ≡ false → IsGoodIfPending c m pending
+none_good c m None none = tt
+none_good c m (Some p) none = absurd (true≢false none)
+
+pub forget_good : (c : Crypto) (m n : Member) (reference : List ℕ) (kept : List KeptProposal) → n ≡ m → kept ≡ filter (is_other reference) n.kept → is_some m.pending ≡ false → IsGoodMember c m → IsGoodMember c (still n n.gone kept n.pending)
+forget_good c m n reference kept same is none good =
+    let g : IsGoodMember c n = subst (IsGoodMember c) (sym same) good in
+    let none_now : is_some n.pending ≡ false = ap (λ (x : Member). is_some x.pending) same ∙ none in
+    let ks = recursion_from_All (IsGoodKept c n) _ (All-filter (is_other reference) (IsGoodKept c n) n.kept (All-from_recursion (IsGoodKept c n) n.kept g.kept)) in
+    subst (λ (l : List KeptProposal). IsGoodMember c (still n n.gone l n.pending)) (sym is)
+    (good_still c n n.gone (filter (is_other reference) n.kept) n.pending g ks (none_good c _ n.pending none_now))
 
 -- ---- messages
 

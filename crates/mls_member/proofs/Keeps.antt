@@ -104,10 +104,10 @@ said_new value c m new said own message reference result sent e known does =
 
 -- ---- the leaf of an update
 
-pub updated_made : (c : Crypto) (m : Member) (s : Speaker) (seed group : List ℕ) (old made : LeafNode) (x : GroupContext) → Speaks m s → x ≡ s.group.now.context → group ≡ x.group_id
-    → made ≡ signed_leaf c s.signing.now group s.leaf (unsigned_leaf c (c.public (leaf_key_of c seed)) old.signature_key old.credential leaf_node_source.Update) → made ≡ updated_leaf c m old seed
+pub updated_made : (c : Crypto) (m : Member) (s : Speaker) (seed group key : List ℕ) (old made : LeafNode) (x : GroupContext) → Speaks m s → x ≡ s.group.now.context → group ≡ x.group_id → key ≡ c.public (leaf_key_of c seed)
+    → made ≡ signed_leaf c s.signing.now group s.leaf (unsigned_leaf c key old.signature_key old.credential leaf_node_source.Update) → made ≡ updated_leaf c m old seed
 unfolding updated_leaf
-updated_made c m s seed group old made x sp context_is group_is e = e ∙ rw (sp.signing, sp.leaf, sp.public, group_is, context_is) refl
+updated_made c m s seed group key old made x sp context_is group_is key_is e = e ∙ rw (key_is, sp.signing, sp.leaf, sp.public, group_is, context_is) refl
 
 pub updated_is : (c : Crypto) (m : Member) (s : Speaker) (seed : List ℕ) (old made : LeafNode) (t : Term) → Speaks m s → t ≡ s.group.now.tree → Some old ≡ leaf_of t s.leaf → made ≡ updated_leaf c m old seed → updated_answer c m seed ≡ Ok made
 updated_is c m s seed old made t sp tree_is found e =

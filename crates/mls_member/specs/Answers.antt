@@ -63,6 +63,10 @@ abbrev pub kept_message : Member → List ℕ → Option (List ℕ)
 kept_message m reference =
     option_map (λ (k : KeptProposal). k.message) (kept_under m.kept reference)
 
+-- the message of a member's pending commit
+abbrev pub pending_message : Member → Option (List ℕ)
+pending_message m = option_map (λ (p : Pending). p.message) m.pending
+
 -- the epoch secret that the pending commit of a member leads to
 abbrev pub pending_secret : Member → Option (List ℕ)
 pending_secret m = option_map (λ (p : Pending). p.epoch_secret) m.pending

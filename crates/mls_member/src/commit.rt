@@ -1,6 +1,6 @@
 //! Committing.
 
-ghost use Rattle.std.specs.Prelude.{◌≡◌, ◌+◌, ◌<◌, ◌^◌, true, Err, is_some, IfOk, map};
+ghost use Rattle.std.specs.Prelude.{◌≡◌, ◌+◌, ◌<◌, ◌^◌, true, Err, IfOk, map};
 ghost use Rattle.std.specs.List.{AllByRecursion};
 ghost use Rattle.mls_theorems.specs.SpelledParts.{FullFits};
 ghost use Rattle.mls_make.specs.CommitCall.{made_as, AreUsable};
@@ -30,13 +30,6 @@ pub struct Made {
 }
 
 impl<S: Suite> Member<S> {
-    /// Tells whether it has a pending commit.
-    fn has_pending(&self) -> bool
-        ensures { result ≡ is_some self.now.pending }
-    {
-        self.pending.is_some()
-    }
-
     /// Finds the proposals that a commit call uses: `UnknownReference` (60) a reference isn't kept (RFC 9420, 12.4).
     fn resolve_items<'a>(&'a self, items: &'a [Item]) -> Result<Vec<Used<'a>>, Refusal>
         requires { AreShortItems items.now }
@@ -104,7 +97,7 @@ impl<S: Suite> Member<S> {
         if self.is_gone() {
             return Err(Refusal::Gone);
         }
-        if self.has_pending() {
+        if self.is_commit_pending() {
             return Err(Refusal::PendingCommit);
         }
         if !self.has_next() {

@@ -271,7 +271,9 @@ impl<S: Suite> Member<S> {
     /// Commits the kept proposals that go together: all but its own updates and removals of itself, updates of leaves
     /// that are removed, adds of clients that are there and aren't removed, adds and updates with an encryption key that
     /// the tree has, and where several change one leaf, add one client, bring one encryption key or set the group's
-    /// extensions, those before the last. It answers as `commit` of their references (RFC 9420, 12.2 and 12.4.1).
+    /// extensions, those before the last. It answers as `commit` of their references (RFC 9420, 12.2 and 12.4.1). Where they
+    /// are too many for the tree (21) or too long for a message (6), `commit` takes fewer, and `forget_proposal` lessens
+    /// what is kept.
     pub fn commit_kept(&mut self, path: bool, seed: &Seed) -> Result<KeptCommit, Refusal>
         ensures answer { CommitsKept S.crypto path seed.now self.old self.new result }
         ensures left_out { IfOk result (λ x. x.left_out.items ≡ left_out_of self.old) }

@@ -20,7 +20,8 @@ pub struct Inspection<S: Suite> {
     /// What `process` would answer.
     pub effect: Effect,
     /// The member as it would be then: by its group one sees whom a commit adds, removes and renews, and which
-    /// extensions the group would carry; by what it keeps, the proposal.
+    /// extensions the group would carry; by what it keeps, the proposal. One that is removed keeps the group of its last
+    /// epoch.
     pub member: Member<S>,
 }
 

@@ -13,7 +13,6 @@ mod group_members;
 mod inspect;
 mod join;
 mod kept_and_pending;
-mod kept_proposal;
 mod kept_proposals;
 mod listed_proposal;
 mod load;

@@ -138,7 +138,7 @@ impl<S: Suite> Member<S> {
     }
 
     /// The member that `save` made the bytes of, or the first check that fails: decoding, then `OtherSuite` (100)
-    /// another suite, `BadSecret` (101) what is no secret, 20 to 26, 36, 51, 52 and `BadTreeHash` (103) the tree,
+    /// another suite, `BadSecret` (101) what is no secret, 20, 21, 23 to 26, 36, 51, 52 and `BadTreeHash` (103) the tree,
     /// `NotAMember` (102) no member is at its leaf, `OtherKey` (104) a private key is missing, isn't due or isn't that
     /// of its public key; the same of the state that a pending commit leads to.
     #[tactic(auto, unfolding(crate::specs::Saved::load))]

@@ -9,7 +9,7 @@ ghost use Rattle.mls_tree_model.specs.Arrays.{to_nodes};
 ghost use Rattle.mls_treekem_model.specs.Height.{ArePairs};
 ghost use Rattle.mls_model.specs.MemberInvariant.{IsGoodMember};
 ghost use Rattle.mls_model.specs.Member as model;
-ghost use Rattle.mls_member.specs.Answers.{kept_message, pending_secret};
+ghost use Rattle.mls_member.specs.Answers.{kept_message, pending_message, pending_secret};
 
 use crate::kept_and_pending::{KeptProposal, Pending};
 use crate::used_proposals::kept_under;
@@ -161,6 +161,16 @@ impl<S: Suite> Member<S> {
         }
     }
 
+    /// Lends the message of its pending commit, as `commit` answered it (RFC 9420, 12.4.1). The Welcome isn't kept.
+    pub fn pending_message(&self) -> Option<&[u8]>
+        ensures { option_copied result ≡ pending_message self.now }
+    {
+        match &self.pending {
+            Some(p) => Some(&p.message),
+            None => None,
+        }
+    }
+
     /// Lends the epoch secret that its pending commit leads to.
     pub fn pending_secret(&self) -> Option<&Secret>
         ensures { option_copied result ≡ pending_secret self.now }
@@ -171,7 +181,8 @@ impl<S: Suite> Member<S> {
         }
     }
 
-    /// Forgets the pending commit, and answers whether there was one. It takes no memory.
+    /// Forgets the pending commit, and answers whether there was one. It takes no memory. The member can't follow a commit
+    /// of its own that it forgot: one that others may have got is to be dropped only once another commit is in its place.
     #[tactic(auto, unfolding(mls_model::specs::Member::without_pending))]
     pub fn drop_pending(&mut self) -> bool
         ensures had { result ≡ is_some self.old.pending }

@@ -6,6 +6,7 @@ ghost use Rattle.mls_wire.specs.Checks.{AnswersOutright, passed};
 ghost use Rattle.mls_leaf.specs.KeyPackage.{key_package as key_package_format};
 ghost use Rattle.mls_leaf.specs.Proposal.{proposal as proposal_format};
 ghost use Rattle.mls_leaf.specs.declared.proposal.Proposal.TheVariants.{Update};
+ghost use Rattle.mls_candidate.specs.Leaves.{public_leaf_key};
 ghost use Rattle.mls_checks.specs.Checks.{key_package_checks};
 ghost use Rattle.mls_public_group.specs.Faults.{number_of as number_of_group, Gives, Passes};
 ghost use Rattle.mls_public_group.specs.Short.{IsBelow};
@@ -15,11 +16,11 @@ ghost use Rattle.mls_member.specs.declared.error.Refusal.TheVariants.{Gone};
 
 use crate::error::Refusal;
 use crate::member::Member;
-use mls_candidate::{leaf_key, renewed_leaf};
+use mls_candidate::{leaf_pair, renewed_leaf_with_key};
 use mls_kdf::Seed;
 use mls_leaf::{GroupExtensions, KeyPackage, LeafNode, LeafSource, Proposal};
 use mls_public_group::GroupError;
-use mls_suite::Suite;
+use mls_suite::{KeyPair, Suite};
 use mls_tree::TreeError;
 
 impl<S: Suite> Member<S> {
@@ -32,8 +33,9 @@ impl<S: Suite> Member<S> {
         Ok(())
     }
 
-    /// The leaf of an update: `NoSuchLeaf` (22) where the member has none (RFC 9420, 7.2).
-    fn updated_leaf(&self, seed: &Seed) -> Result<LeafNode, GroupError>
+    /// The leaf of an update, with the key that the seed gives: `NoSuchLeaf` (22) where the member has none (RFC 9420, 7.2).
+    fn updated_leaf(&self, seed: &Seed, key: Vec<u8>) -> Result<LeafNode, GroupError>
+        requires { key.items ≡ public_leaf_key S.crypto seed.now }
         ensures leaf { Gives (updated_answer S.crypto self.now seed.now) result }
         ensures short { IfOk result (λ v. IsBelow (2 ^ 28) proposal_format (Update v)) }
     {
@@ -47,7 +49,8 @@ impl<S: Suite> Member<S> {
         let group_id = group.context().group_id.as_slice();
         let source = LeafSource::Update;
         let signing = speaker.signing;
-        let leaf = renewed_leaf::<S>(self.alloc, signing, group_id, index, old, source, seed)?;
+        let alloc = self.alloc;
+        let leaf = renewed_leaf_with_key::<S>(alloc, signing, group_id, index, old, source, key)?;
         Ok(leaf)
     }
 
@@ -94,8 +97,8 @@ impl<S: Suite> Member<S> {
             return Err(Refusal::Gone);
         }
         self.require_own_leaf()?;
-        let own_key = leaf_key::<S>(self.alloc, seed)?;
-        let proposal = Proposal::Update(self.updated_leaf(seed)?);
+        let KeyPair { sk, pk } = leaf_pair::<S>(self.alloc, seed)?;
+        let proposal = Proposal::Update(self.updated_leaf(seed, pk)?);
         let sender = self.keys.leaf();
         if let Err(error) = self
             .group
@@ -104,7 +107,7 @@ impl<S: Suite> Member<S> {
             drop(proposal);
             return Err(error.into());
         }
-        self.send_and_keep(proposal, Some(own_key))
+        self.send_and_keep(proposal, Some(sk))
     }
 
     /// Proposes to remove the member at a leaf: its message, which the member keeps. `Gone` (40) the member was
@@ -127,6 +130,7 @@ impl<S: Suite> Member<S> {
             .require_proposal::<S>(self.alloc, sender, &proposal)?;
         self.send_and_keep(proposal, None)
     }
+
     /// Proposes that the group carry these extensions in place of its own: the message, which the member keeps. `Gone`
     /// (40) the member was removed, `TooLong` (6) and `ReferenceTaken` (49) as of an addition (RFC 9420, 12.1.7).
     #[tactic(auto, unfolding(mls_model::specs::Propose::propose_extensions, mls_model::specs::Propose::make_proposal, mls_model::specs::Proposals::proposal_checks))]

@@ -92,7 +92,9 @@ impl<S: Suite> Member<S> {
     }
 
     /// The member as bytes, which `load` makes it of again: its public state, secrets, keys, kept proposals and pending
-    /// commit. `TooLong` (6) where there are more bytes than an input has. The bytes hold its secrets.
+    /// commit. `TooLong` (6) where there are more bytes than an input has; a kept proposal takes twice its length, until it
+    /// is committed or `forget_proposal` has it go. The bytes hold its secrets. What was made before, a message or a
+    /// Welcome, is to be stored with them and sent only then: what is sent and not saved can't be followed.
     #[tactic(auto, using(crate::proofs::Saving::unfit, crate::proofs::Saving::too_long, crate::proofs::Saving::bytes_loaded))]
     pub fn save(&self) -> Result<Vec<u8>, LeafError>
         ensures saved { Saves (saved_of self.now) result }

@@ -62,7 +62,7 @@ impl ShortKeyPackage {
         &self.key_package
     }
 
-    /// The proposal that adds it, in full, for `commit` (RFC 9420, 12.1.1).
+    /// The item of a commit's list that adds it: the proposal, in full (RFC 9420, 12.1.1).
     pub fn addition(&self) -> Result<Item, OutOfMemory>
         ensures item { IfOk result (λ i. list_item_of i ≡ in_full (Add self.now)) }
         ensures short { IfOk result IsShortItem }

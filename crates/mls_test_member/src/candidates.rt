@@ -1,7 +1,7 @@
 //! Candidates: their messages and keys, and what they are refused for.
 
 use crate::sole::candidate;
-use mls_candidate::{Candidate, CandidateError, leaf_key};
+use mls_candidate::{Candidate, CandidateError, leaf_pair};
 use mls_leaf::INPUT_LIMIT;
 use mls_suite::{Glass, OutOfMemory, Suite};
 use std::alloc::Global;
@@ -15,7 +15,7 @@ fn keys_are_a_pair(alloc: Global, made: &Candidate<Glass>) -> Result<bool, OutOf
 
 /// Whether the leaf's key of a candidate is that which its seed gives.
 fn key_is_of_seed(alloc: Global, made: &Candidate<Glass>) -> Result<bool, OutOfMemory> {
-    Ok(*made.leaf_key() == leaf_key::<Glass>(alloc, &[1; 32])?)
+    Ok(*made.leaf_key() == leaf_pair::<Glass>(alloc, &[1; 32])?.sk)
 }
 
 #[test]
