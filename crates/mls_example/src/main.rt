@@ -13,7 +13,7 @@ fn export_key(alloc: Global, member: &Member<Suite0001>) -> Result<String> {
     Ok(hex::encode(alloc, key.as_slice())?)
 }
 
-/// Two members speak to each other.
+/// Two members speak to each other. Each has one conversation in an epoch.
 fn speak(
     rt: &impl Print,
     alloc: Global,

@@ -8,13 +8,14 @@ ghost use Rattle.mls_refusal_kind.specs.RefusalKinds.{kind_of};
 pub enum RefusalKind {
     /// A growth was refused (1): call again once there is memory. Nothing has changed.
     OutOfMemory,
-    /// The bytes are no message, or no saved form (2 to 5, 7, 13, 101): drop them.
+    /// The bytes are nothing that the call takes, a message or a saved form (2 to 5, 7, 13, 101): drop them. Of another
+    /// kind of message it is 7 or 41: `process` takes handshake messages, `open` application messages.
     Malformed,
     /// An input or what would be made is too long (6).
     TooLong,
     /// The message has what this profile leaves out (11, 12, 14, 74, 76).
     Unsupported,
-    /// The message is of another kind (41, 45, 70): hand it to the call that takes it.
+    /// The message is of another kind (41, 45, 70): hand it to the call that takes it. None takes one with 45.
     WrongMessage,
     /// The message is of another group (42, 111): hand it to the member there.
     OtherGroup,
@@ -26,7 +27,8 @@ pub enum RefusalKind {
     NotForMe,
     /// No member is at the leaf (22, 44, 102, 114).
     NotAMember,
-    /// The message is one's own, and isn't kept (48): there is nothing to do.
+    /// The message is one's own, and what it changed was dropped or lost (48): drop it. Where the group follows such a
+    /// commit, the member can't: it must be added anew.
     OwnMessage,
     /// A membership tag or a confirmation tag is wrong (46, 65): drop the message.
     BadTag,
@@ -41,7 +43,8 @@ pub enum RefusalKind {
     TooFarAhead,
     /// The sender has no generation left in the epoch (110): go on in the next epoch.
     EpochSpent,
-    /// The commit names a proposal that isn't kept (60): process that proposal first.
+    /// The commit names a proposal that isn't kept (60): process that proposal first. A member that lost its own can't
+    /// follow the commit: it must be added anew.
     MissingProposal,
     /// A commit is pending (67): process it, or drop it.
     CommitPending,
