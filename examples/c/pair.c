@@ -91,8 +91,8 @@ static struct message commit_kept(mls_member *member, uint8_t byte, struct messa
 }
 
 /* Commits the removal of a leaf, which the commit lists in full: its length, 1 in full, 3 a removal, the leaf. */
-static struct message commit_removal(mls_member *member, uint8_t leaf, uint8_t byte) {
-    const uint8_t list[] = {7, 1, 0, 3, 0, 0, 0, leaf};
+static struct message commit_removal(mls_member *member, uint32_t leaf, uint8_t byte) {
+    const uint8_t list[] = {7, 1, 0, 3, (uint8_t)(leaf >> 24), (uint8_t)(leaf >> 16), (uint8_t)(leaf >> 8), (uint8_t)leaf};
     mls_bytes *made = NULL;
     check("commit", mls_member_commit(member, list, sizeof list, 1, seed(byte), 32, &made, NULL));
     struct message message = take(made);
@@ -100,14 +100,13 @@ static struct message commit_removal(mls_member *member, uint8_t leaf, uint8_t b
     return message;
 }
 
-/* A member that is saved, and loaded again. */
+/* A member that is saved, and loaded again. What is saved holds the member's secrets; mls_free doesn't wipe them. */
 static mls_member *reload(mls_member *member) {
     mls_bytes *made = NULL;
     mls_member *loaded = NULL;
     check("save", mls_member_save(member, &made));
     struct message saved = take(made);
     check("load", mls_member_load(saved.bytes, saved.length, &loaded));
-    memset(saved.bytes, 0, saved.length); /* They hold the member's secrets. */
     return hold(loaded);
 }
 
@@ -118,20 +117,25 @@ static struct message export_secret(mls_member *member) {
     return take(made);
 }
 
-/* One member says something to the other. */
-static void say(mls_member *from, mls_member *to, const char *words) {
-    mls_conversation *speaker = NULL, *hearer = NULL;
+/* A member's conversation of its epoch: it makes one, and keeps it while the epoch lasts. */
+static mls_conversation *conversation(mls_member *member) {
+    mls_conversation *made = NULL;
+    check("conversation", mls_conversation_new(member, &made));
+    return hold(made);
+}
+
+/* One member says something to the other, who looks up who it was. */
+static void say(mls_conversation *speaker, mls_conversation *hearer, const char *words, uint8_t byte) {
     mls_bytes *made = NULL;
     uint64_t sender = 0;
-    check("conversation", mls_conversation_new(from, &speaker));
-    hold(speaker);
-    check("conversation", mls_conversation_new(to, &hearer));
-    hold(hearer);
-    check("seal", mls_conversation_seal(speaker, (const uint8_t *)words, strlen(words), NULL, 0, 8, seed(9), 32, &made));
+    check("seal",
+          mls_conversation_seal(speaker, (const uint8_t *)words, strlen(words), NULL, 0, 8, seed(byte), 32, &made));
     struct message message = take(made);
     check("open", mls_conversation_open(hearer, message.bytes, message.length, &made, NULL, &sender));
     struct message heard = take(made);
-    printf("leaf %" PRIu64 " says %.*s\n", sender, (int)heard.length, (const char *)heard.bytes);
+    check("sender", mls_conversation_member_at(hearer, sender, &made, NULL));
+    struct message name = take(made);
+    printf("%.*s says %.*s\n", (int)name.length, (const char *)name.bytes, (int)heard.length, (const char *)heard.bytes);
 }
 
 static uint64_t epoch(mls_member *member) {
@@ -151,12 +155,17 @@ int main(void) {
     hold(alice);
     check("key package", mls_candidate_key_package(his, &made));
     struct message package = take(made), welcome = {NULL, 0};
+    check("identity", mls_key_package_identity(package.bytes, package.length, &made, NULL));
+    struct message name = take(made);
+    printf("alice adds %.*s\n", (int)name.length, (const char *)name.bytes);
     check("add", mls_member_propose_add(alice, package.bytes, package.length, NULL));
     commit_kept(alice, 4, &welcome);
     check("join", mls_member_join(his, welcome.bytes, welcome.length, &bob));
     hold(bob);
     printf("bob joins in epoch %" PRIu64 "\n", epoch(bob));
-    say(alice, bob, "hello");
+    mls_conversation *spoken = conversation(alice), *heard = conversation(bob);
+    say(spoken, heard, "hello", 8);
+    say(heard, spoken, "hi", 9);
 
     /* Bob proposes a new key for his leaf, and Alice commits it. */
     check("update", mls_member_propose_update(bob, seed(5), 32, &made));
@@ -175,7 +184,7 @@ int main(void) {
     /* Alice removes Bob. */
     uint64_t leaf = 0;
     check("leaf", mls_member_leaf_index(bob, &leaf));
-    struct message removed = commit_removal(alice, (uint8_t)leaf, 7);
+    struct message removed = commit_removal(alice, (uint32_t)leaf, 7);
     printf("bob was %s\n", process(bob, removed) == MLS_REMOVED ? "removed" : "kept");
     return 0;
 }

@@ -4,8 +4,8 @@ tools/build-library leaves.
     python3 examples/python/mls.py         the life of a group of two
 
 The environment's MLS_LIBRARY may name another library. A call that the library refuses raises Refused, whose `number`
-docs/REFUSALS.md explains; the member or candidate is then as it was. A seed is 32 random bytes, used once. One thread at
-a time uses an object.
+docs/REFUSALS.md explains; the member or candidate is then as it was. A seed is 32 random bytes, used once. Calls hold the
+interpreter's lock, so no two run at once.
 """
 import ctypes
 import os
@@ -14,6 +14,8 @@ import weakref
 TOP = os.path.dirname(os.path.dirname(os.path.dirname(os.path.realpath(__file__))))
 LIBRARY = f"{TOP}/crates/mls_c/out/libmls.so"
 EFFECTS = {1: "proposed", 2: "known", 3: "advanced", 4: "removed"}
+# What a call takes as it is: numbers, handles, buffers and places to write to.
+PLAIN = (ctypes.c_uint64, ctypes.c_size_t, ctypes.c_void_p, ctypes.Array, type(ctypes.byref(ctypes.c_uint64())))
 
 
 class Refused(Exception):
@@ -32,16 +34,18 @@ class Library:
     """The calls of the shared library, which raise what is refused."""
 
     def __init__(self, path):
-        self.library = ctypes.CDLL(path)
+        self.library = ctypes.PyDLL(path)
 
     def call(self, name, *words):
         """A call, whose words are numbers, bytes, handles and places to write to."""
         passed = []
         for word in words:
-            if isinstance(word, (bytes, bytearray)):
-                passed += [bytes(word), ctypes.c_size_t(len(word))]
-            else:
+            if isinstance(word, (bytes, bytearray, memoryview)):
+                passed += [bytes(word), ctypes.c_size_t(len(bytes(word)))]
+            elif isinstance(word, PLAIN):
                 passed.append(word)
+            else:
+                raise TypeError(f"mls_{name} takes bytes, and no {type(word).__name__}")
         function = getattr(self.library, f"mls_{name}")
         function.restype = ctypes.c_uint32
         number = function(*passed)
@@ -129,9 +133,26 @@ def vector(content):
     raise ValueError("no vector has 2^30 bytes")
 
 
+def place_of(message):
+    """Where a message says that it belongs, which nothing checked: what takes it, its group, and its epoch."""
+    group_id, epoch = Bytes(ctypes.c_void_p()), ctypes.c_uint64()
+    library.call("message_place", message, ctypes.byref(group_id.handle), ctypes.byref(epoch))
+    return Conversation if message[3] == 2 else Member, group_id.copy(), epoch.value
+
+
+def identity_of(key_package):
+    """The identity and the signature key that the message of a KeyPackage offers. Nothing of it was checked."""
+    return library.two("key_package_identity", key_package)
+
+
 def removal(leaf):
     """A removal of a leaf in full, as a commit lists it (RFC 9420, 12.4)."""
     return b"\x01\x00\x03" + leaf.to_bytes(4, "big")
+
+
+def kept(reference):
+    """A kept proposal by its reference, as a commit lists it (RFC 9420, 12.4)."""
+    return b"\x02" + vector(reference)
 
 
 def addition(key_package):
@@ -178,17 +199,37 @@ class Member(Held):
                 if refused.number != 22:
                     raise
 
+    @property
+    def extensions(self):
+        """The extensions that its group carries, as propose_extensions takes them."""
+        return library.bytes("member_extensions", self.handle)
+
     def export(self, label, context, length):
         """A secret of its epoch, under a label and a context."""
         return library.bytes("member_export", self.handle, label.encode(), context, ctypes.c_uint64(length))
 
     def conversation(self):
-        """What it seals and opens application messages of its epoch with. Only one an epoch may seal."""
+        """What it seals and opens application messages of its epoch with. Only one an epoch may seal, so it is kept; a
+        member that was loaded, and may have sealed in its epoch before, commits first."""
         return Conversation(library.handle("conversation_new", self.handle))
 
     def process(self, message):
         """Takes a message of the group, and says what it did: proposed, known, advanced or removed."""
         return EFFECTS[library.number("member_process", self.handle, message)]
+
+    def inspect(self, message):
+        """What process would say of a message, and the member as it would be then. It stays itself."""
+        effect, after = ctypes.c_uint64(), ctypes.c_void_p()
+        library.call("member_inspect", self.handle, message, ctypes.byref(effect), ctypes.byref(after))
+        return EFFECTS[effect.value], Member(after)
+
+    def reference_of(self, message):
+        """The reference of the proposal that it keeps with a message, or None."""
+        return library.bytes("member_reference", self.handle, message)
+
+    def forget_proposal(self, reference):
+        """Forgets the proposal that it keeps under a reference, and answers whether there was one."""
+        return bool(library.number("member_forget_proposal", self.handle, reference))
 
     def propose_add(self, key_package):
         """A message that proposes to add the client of a KeyPackage's message."""
@@ -206,8 +247,13 @@ class Member(Held):
         """A message that proposes that the group carry the extensions that bytes spell, with their length."""
         return library.bytes("member_propose_extensions", self.handle, extensions)
 
+    @property
+    def pending_commit(self):
+        """The message of its pending commit, or None."""
+        return library.bytes("member_pending_commit", self.handle)
+
     def drop_pending(self):
-        """Forgets its pending commit, and answers whether there was one."""
+        """Forgets its pending commit, which it can't follow then, and answers whether there was one."""
         return bool(library.number("member_drop_pending", self.handle))
 
     @property
@@ -236,18 +282,31 @@ class Conversation(Held):
         sender = ctypes.c_uint64()
         return (*library.two("conversation_open", self.handle, message, after=[ctypes.byref(sender)]), sender.value)
 
+    def member_at(self, leaf):
+        """The identity and the signature key of the member at a leaf, in this epoch."""
+        return library.two("conversation_member_at", self.handle, ctypes.c_uint64(leaf))
+
+
+def say(speaker, hearer, words, seed):
+    """One member says something to the other, who looks up who it was."""
+    heard, _, sender = hearer.open(speaker.seal(words, seed, padding=8))
+    name, _ = hearer.member_at(sender)
+    print(f"{name.decode()} says {heard.decode()}")
+
 
 def main():
     # Seeds are random in earnest; here they are fixed.
     hers, his = Candidate.new(b"alice", bytes([1] * 32)), Candidate.new(b"bob", bytes([2] * 32))
     alice = Member.create(hers, b"group", bytes([3] * 32))
+    print(f"alice adds {identity_of(his.key_package())[0].decode()}")
     alice.propose_add(his.key_package())
     commit, welcome = alice.commit_kept(bytes([4] * 32))
     alice.process(commit)
     bob = Member.join(his, welcome)
     print(f"bob joins in epoch {bob.epoch}")
-    words, _, sender = bob.conversation().open(alice.conversation().seal(b"hello", bytes([9] * 32), padding=8))
-    print(f"leaf {sender} says {words.decode()}")
+    spoken, heard = alice.conversation(), bob.conversation()
+    say(spoken, heard, b"hello", bytes([8] * 32))
+    say(heard, spoken, b"hi", bytes([9] * 32))
     alice.process(bob.propose_update(bytes([5] * 32)))
     commit, _ = alice.commit_kept(bytes([6] * 32))
     alice.process(commit)

@@ -216,7 +216,7 @@ static uint32_t call_candidate(struct slot on, struct made *made) {
 static uint32_t ask_member(struct slot on, struct made *made) {
     struct text a = any_text(), b = any_text();
     uint64_t told = 0;
-    switch (next(8)) {
+    switch (next(12)) {
     case 0:
         return mls_member_epoch(on.handle, next(4) > 0 ? &told : NULL);
     case 1:
@@ -231,6 +231,15 @@ static uint32_t ask_member(struct slot on, struct made *made) {
         return mls_member_save(on.handle, &made->bytes);
     case 6:
         return mls_member_export(on.handle, a.bytes, a.length, b.bytes, b.length, number(9000), &made->bytes);
+    case 7:
+        return mls_member_extensions(on.handle, &made->bytes);
+    case 8:
+        return mls_member_reference(on.handle, a.bytes, a.length, &made->bytes);
+    case 9:
+        return mls_member_pending_commit(on.handle, &made->bytes);
+    case 10:
+        made->slot.kind = MEMBER;
+        return mls_member_inspect(on.handle, a.bytes, a.length, &told, (mls_member **)&made->slot.handle);
     default:
         made->slot.kind = CONVERSATION;
         return mls_conversation_new(on.handle, (mls_conversation **)&made->slot.handle);
@@ -240,7 +249,7 @@ static uint32_t ask_member(struct slot on, struct made *made) {
 static uint32_t change_member(struct slot on, struct made *made) {
     struct text a = any_text(), l = list(), e = extensions(), s = seed();
     uint64_t told = 0;
-    switch (next(10)) {
+    switch (next(11)) {
     case 0:
         return mls_member_propose_add(on.handle, a.bytes, a.length, &made->bytes);
     case 1:
@@ -256,6 +265,8 @@ static uint32_t change_member(struct slot on, struct made *made) {
         return mls_member_commit_kept(on.handle, next(2), s.bytes, s.length, &made->bytes, &made->other);
     case 7:
         return next(4) > 0 ? mls_member_epoch(on.handle, &told) : mls_member_drop_pending(on.handle, &told);
+    case 8:
+        return mls_member_forget_proposal(on.handle, a.bytes, a.length, &told);
     default:
         return mls_member_process(on.handle, a.bytes, a.length, &told);
     }
@@ -264,6 +275,9 @@ static uint32_t change_member(struct slot on, struct made *made) {
 static uint32_t call_conversation(struct slot on, struct made *made) {
     struct text a = any_text(), b = any_text(), s = seed();
     uint64_t sender = 0;
+    if (next(4) == 0) {
+        return mls_conversation_member_at(on.handle, number(4), &made->bytes, next(2) == 0 ? NULL : &made->other);
+    }
     if (next(2) == 0) {
         uint64_t padding = number(100);
         return mls_conversation_seal(on.handle, a.bytes, a.length, b.bytes, b.length, padding, s.bytes, s.length,
@@ -274,8 +288,14 @@ static uint32_t call_conversation(struct slot on, struct made *made) {
 
 static uint32_t call_other(struct slot on, struct made *made) {
     struct text a = any_text();
-    if (next(2) == 0) {
+    if (next(3) == 0) {
         return mls_refusal_name(number(200), &made->bytes);
+    }
+    if (next(2) == 0) {
+        return mls_key_package_identity(a.bytes, a.length, &made->bytes, &made->other);
+    }
+    if (next(2) == 0) {
+        return mls_message_place(a.bytes, a.length, &made->bytes, NULL);
     }
     if (on.kind == NOTHING) {
         return mls_free(NULL) == 130 ? 0 : 130;

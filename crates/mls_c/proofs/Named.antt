@@ -11,7 +11,7 @@ use denote.Steps.{nothing}
 use denote.Enum.Row.{tagged_with}
 use denote.Enum.Enum.{form_of, in_a_row}
 use denote.Enum.Declared.{shape}
-use Rattle.mls_c.specs.declared.call.Call.TheVariants.{BytesLength, CandidateNew, CandidateKeyPackage, MemberCreate, MemberJoin, MemberEpoch, MemberGroupId, MemberProcess, MemberProposeAdd, MemberProposeUpdate, MemberCommitKept, MemberProposeRemove, MemberDropPending, MemberLeafIndex, BytesAt, RefusalName, CandidateSave, CandidateLoad, MemberSave, MemberLoad, MemberExport, MemberLeafCount, MemberAt, MemberProposeExtensions, ConversationNew, ConversationSeal, ConversationOpen, MemberCommit}
+use Rattle.mls_c.specs.declared.call.Call.TheVariants.{BytesLength, CandidateNew, CandidateKeyPackage, MemberCreate, MemberJoin, MemberEpoch, MemberGroupId, MemberProcess, MemberProposeAdd, MemberProposeUpdate, MemberCommitKept, MemberProposeRemove, MemberDropPending, MemberLeafIndex, BytesAt, RefusalName, CandidateSave, CandidateLoad, MemberSave, MemberLoad, MemberExport, MemberLeafCount, MemberAt, MemberProposeExtensions, ConversationNew, ConversationSeal, ConversationOpen, MemberCommit, MemberInspect, MemberReference, MemberExtensions, KeyPackageIdentity, ConversationMemberAt, MemberForgetProposal, MemberPendingCommit, MessagePlace}
 use Rattle.mls_c.specs.contracts.call.Call as call
 
 pub made_BytesLength : {M : Type 1} {𝓤 : Ura M} (𝓛 : Logic 𝓤) → ent 𝓤 (emp 𝓤) (sem 𝓛 (call.the_row.own_val BytesLength (live 0 (of_list []) ∷ [])))
@@ -153,3 +153,43 @@ pub made_MemberCommit : {M : Type 1} {𝓤 : Ura M} (𝓛 : Logic 𝓤) → ent 
 made_MemberCommit 𝓛 = let v : Val = live 27 (of_list []) in
     qed 𝓛 [] ∵ nothing ! $ feq_i ! (List Val) [] [] refl $ fjoin ! $ fpack ! (Valss []) (in_a_row [] (owns [] tt) []) tt $ feq_i ! (List Val) (v ∷ []) (v ∷ []) refl $ fjoin ! $
     fpack ! (List Val) (tagged_with (form_of (shape call.the_type)) (form_of (shape call.the_type)).payload (call.the_type.to MemberCommit) (v ∷ [])) [] $ done !
+
+pub made_MemberInspect : {M : Type 1} {𝓤 : Ura M} (𝓛 : Logic 𝓤) → ent 𝓤 (emp 𝓤) (sem 𝓛 (call.the_row.own_val MemberInspect (live 28 (of_list []) ∷ [])))
+made_MemberInspect 𝓛 = let v : Val = live 28 (of_list []) in
+    qed 𝓛 [] ∵ nothing ! $ feq_i ! (List Val) [] [] refl $ fjoin ! $ fpack ! (Valss []) (in_a_row [] (owns [] tt) []) tt $ feq_i ! (List Val) (v ∷ []) (v ∷ []) refl $ fjoin ! $
+    fpack ! (List Val) (tagged_with (form_of (shape call.the_type)) (form_of (shape call.the_type)).payload (call.the_type.to MemberInspect) (v ∷ [])) [] $ done !
+
+pub made_MemberReference : {M : Type 1} {𝓤 : Ura M} (𝓛 : Logic 𝓤) → ent 𝓤 (emp 𝓤) (sem 𝓛 (call.the_row.own_val MemberReference (live 29 (of_list []) ∷ [])))
+made_MemberReference 𝓛 = let v : Val = live 29 (of_list []) in
+    qed 𝓛 [] ∵ nothing ! $ feq_i ! (List Val) [] [] refl $ fjoin ! $ fpack ! (Valss []) (in_a_row [] (owns [] tt) []) tt $ feq_i ! (List Val) (v ∷ []) (v ∷ []) refl $ fjoin ! $
+    fpack ! (List Val) (tagged_with (form_of (shape call.the_type)) (form_of (shape call.the_type)).payload (call.the_type.to MemberReference) (v ∷ [])) [] $ done !
+
+pub made_MemberExtensions : {M : Type 1} {𝓤 : Ura M} (𝓛 : Logic 𝓤) → ent 𝓤 (emp 𝓤) (sem 𝓛 (call.the_row.own_val MemberExtensions (live 30 (of_list []) ∷ [])))
+made_MemberExtensions 𝓛 = let v : Val = live 30 (of_list []) in
+    qed 𝓛 [] ∵ nothing ! $ feq_i ! (List Val) [] [] refl $ fjoin ! $ fpack ! (Valss []) (in_a_row [] (owns [] tt) []) tt $ feq_i ! (List Val) (v ∷ []) (v ∷ []) refl $ fjoin ! $
+    fpack ! (List Val) (tagged_with (form_of (shape call.the_type)) (form_of (shape call.the_type)).payload (call.the_type.to MemberExtensions) (v ∷ [])) [] $ done !
+
+pub made_KeyPackageIdentity : {M : Type 1} {𝓤 : Ura M} (𝓛 : Logic 𝓤) → ent 𝓤 (emp 𝓤) (sem 𝓛 (call.the_row.own_val KeyPackageIdentity (live 31 (of_list []) ∷ [])))
+made_KeyPackageIdentity 𝓛 = let v : Val = live 31 (of_list []) in
+    qed 𝓛 [] ∵ nothing ! $ feq_i ! (List Val) [] [] refl $ fjoin ! $ fpack ! (Valss []) (in_a_row [] (owns [] tt) []) tt $ feq_i ! (List Val) (v ∷ []) (v ∷ []) refl $ fjoin ! $
+    fpack ! (List Val) (tagged_with (form_of (shape call.the_type)) (form_of (shape call.the_type)).payload (call.the_type.to KeyPackageIdentity) (v ∷ [])) [] $ done !
+
+pub made_ConversationMemberAt : {M : Type 1} {𝓤 : Ura M} (𝓛 : Logic 𝓤) → ent 𝓤 (emp 𝓤) (sem 𝓛 (call.the_row.own_val ConversationMemberAt (live 32 (of_list []) ∷ [])))
+made_ConversationMemberAt 𝓛 = let v : Val = live 32 (of_list []) in
+    qed 𝓛 [] ∵ nothing ! $ feq_i ! (List Val) [] [] refl $ fjoin ! $ fpack ! (Valss []) (in_a_row [] (owns [] tt) []) tt $ feq_i ! (List Val) (v ∷ []) (v ∷ []) refl $ fjoin ! $
+    fpack ! (List Val) (tagged_with (form_of (shape call.the_type)) (form_of (shape call.the_type)).payload (call.the_type.to ConversationMemberAt) (v ∷ [])) [] $ done !
+
+pub made_MemberForgetProposal : {M : Type 1} {𝓤 : Ura M} (𝓛 : Logic 𝓤) → ent 𝓤 (emp 𝓤) (sem 𝓛 (call.the_row.own_val MemberForgetProposal (live 33 (of_list []) ∷ [])))
+made_MemberForgetProposal 𝓛 = let v : Val = live 33 (of_list []) in
+    qed 𝓛 [] ∵ nothing ! $ feq_i ! (List Val) [] [] refl $ fjoin ! $ fpack ! (Valss []) (in_a_row [] (owns [] tt) []) tt $ feq_i ! (List Val) (v ∷ []) (v ∷ []) refl $ fjoin ! $
+    fpack ! (List Val) (tagged_with (form_of (shape call.the_type)) (form_of (shape call.the_type)).payload (call.the_type.to MemberForgetProposal) (v ∷ [])) [] $ done !
+
+pub made_MemberPendingCommit : {M : Type 1} {𝓤 : Ura M} (𝓛 : Logic 𝓤) → ent 𝓤 (emp 𝓤) (sem 𝓛 (call.the_row.own_val MemberPendingCommit (live 34 (of_list []) ∷ [])))
+made_MemberPendingCommit 𝓛 = let v : Val = live 34 (of_list []) in
+    qed 𝓛 [] ∵ nothing ! $ feq_i ! (List Val) [] [] refl $ fjoin ! $ fpack ! (Valss []) (in_a_row [] (owns [] tt) []) tt $ feq_i ! (List Val) (v ∷ []) (v ∷ []) refl $ fjoin ! $
+    fpack ! (List Val) (tagged_with (form_of (shape call.the_type)) (form_of (shape call.the_type)).payload (call.the_type.to MemberPendingCommit) (v ∷ [])) [] $ done !
+
+pub made_MessagePlace : {M : Type 1} {𝓤 : Ura M} (𝓛 : Logic 𝓤) → ent 𝓤 (emp 𝓤) (sem 𝓛 (call.the_row.own_val MessagePlace (live 35 (of_list []) ∷ [])))
+made_MessagePlace 𝓛 = let v : Val = live 35 (of_list []) in
+    qed 𝓛 [] ∵ nothing ! $ feq_i ! (List Val) [] [] refl $ fjoin ! $ fpack ! (Valss []) (in_a_row [] (owns [] tt) []) tt $ feq_i ! (List Val) (v ∷ []) (v ∷ []) refl $ fjoin ! $
+    fpack ! (List Val) (tagged_with (form_of (shape call.the_type)) (form_of (shape call.the_type)).payload (call.the_type.to MessagePlace) (v ∷ [])) [] $ done !

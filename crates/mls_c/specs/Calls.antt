@@ -18,7 +18,8 @@ use Rattle.mls_types.specs.declared.message.MlsMessage.TheVariants as message
 use Rattle.mls_suite_0001.specs.Suite0001.{suite_0001}
 use Rattle.mls_tree_model.specs.Term.{width}
 use Rattle.mls_saved.specs.Member.{saved_member}
-use Rattle.mls_exchange.specs.State.{State}
+use Rattle.mls_exchange.specs.State.{State, member_at as sender_at}
+use Rattle.mls_exchange.specs.MessagePlace.{MessagePlace, place_read}
 use Rattle.mls_exchange.specs.Sealing.{seal_message}
 use Rattle.mls_exchange.specs.Opening.{open_message}
 use Rattle.mls_exchange.specs.declared.open.Opened.{Opened}
@@ -27,13 +28,15 @@ use Rattle.mls_candidate.specs.Saved.{save_candidate, load_candidate}
 use Rattle.mls_model.specs.Candidate.{Candidate, new_candidate, create_group, package_message}
 use Rattle.mls_model.specs.Join.{join_verdict}
 use Rattle.mls_model.specs.Make.{commit_call}
-use Rattle.mls_model.specs.Member.{Member, without_pending}
+use Rattle.mls_model.specs.Member.{Member, kept_under, without_pending}
 use Rattle.mls_model.specs.Messages.{decode_message}
 use Rattle.mls_model.specs.Propose.{propose_add, propose_update, propose_remove, propose_extensions}
 use Rattle.mls_model.specs.Verdict.{verdict}
 use Rattle.mls_model.specs.declared.effect.Effect.{Effect}
 use Rattle.mls_model.specs.declared.effect.Effect.TheVariants.{Proposed, Known, Advanced, Removed}
+use Rattle.mls_member.specs.Answers.{pending_message}
 use Rattle.mls_member.specs.GroupMembers.{group_member}
+use Rattle.mls_member.specs.KeptProposals.{kept_reference, without_kept}
 use Rattle.mls_member.specs.KeptTogether.{kept_list}
 use Rattle.mls_member.specs.Saved.{saved_of, load, FitsInput}
 use Rattle.mls_c.specs.Faults.{number_of}
@@ -144,6 +147,10 @@ a_package given = given >>= λ xs. decode_message xs >>= package_in
 -- one handle
 abbrev pub makes : Shown → Fruits
 makes x = (Some x, None, 0)
+
+-- bytes in one handle, if there are any
+abbrev pub makes_if : Option (List ℕ) → Fruits
+makes_if xs = (option_map bytes xs, None, 0)
 
 -- a number
 abbrev pub tells : ℕ → Fruits
@@ -280,6 +287,44 @@ follow_message given m =
 unfoldable pub member_process : Shown → Text → Answer
 member_process held given = on_member held (follow_message given)
 
+-- what a message would do to it, and the member after it
+abbrev pub shows_member : Effect → Member → Fruits
+shows_member effect after = (Some (member after), None, effect_number effect)
+
+unfoldable pub make_inspection : Shown → Text → Result Fruits ℕ
+make_inspection held given = a_member held
+    >>= λ m. given
+    >>= λ xs. verdict suite_0001 m xs
+    >>= λ r. Ok (shows_member r.0 r.1)
+
+unfoldable pub member_inspect : Shown → Text → Answer
+member_inspect held given = make_inspection held given >>= λ x. Ok (x, held)
+
+-- the reference of the proposal that it keeps with a message, if it keeps one
+unfoldable pub make_reference : Shown → Text → Result Fruits ℕ
+make_reference held given =
+    a_member held >>= λ m. given >>= λ xs. Ok (makes_if (kept_reference m xs))
+
+unfoldable pub member_reference : Shown → Text → Answer
+member_reference held given = make_reference held given >>= λ x. Ok (x, held)
+
+-- the message of its pending commit, if it has one
+unfoldable pub make_pending_commit : Shown → Result Fruits ℕ
+make_pending_commit held = a_member held >>= λ m. Ok (makes_if (pending_message m))
+
+unfoldable pub member_pending_commit : Shown → Answer
+member_pending_commit held = make_pending_commit held >>= λ x. Ok (x, held)
+
+-- it forgets the proposal that it keeps under a reference, and answers whether there was one: `PendingCommit` (67) while
+-- a commit is pending
+unfoldable pub forget_given : Text → Member → Result (Fruits × Member) ℕ
+forget_given given m = given
+    >>= λ xs. if is_some m.pending then Err 67
+    else Ok (tells (if is_some (kept_under m.kept xs) then 1 else 0), without_kept m xs)
+
+unfoldable pub member_forget_proposal : Shown → Text → Answer
+member_forget_proposal held given = on_member held (forget_given given)
+
 -- it proposes to add a KeyPackage
 unfoldable pub propose_package : Text → Member → Result (Fruits × Member) ℕ
 propose_package given m =
@@ -359,6 +404,21 @@ SavesIfMember (Err n) outcome = Makes (Err n) outcome
 abbrev pub SavesHeld : Shown → Done → Type 0
 SavesHeld old done = SavesIfMember (a_member old) done.outcome × (shown done.held ≡ old)
 
+-- what is made of the extensions that a group carries, in a handle: the bytes that spell them, or `TooLong` (6) where
+-- they have no spelling; or `OutOfMemory`
+abbrev pub SpellsExtensions : List Extension → Result Fruit ℕ → Type 0
+SpellsExtensions xs (Ok f) =
+    group_extensions.Fits xs × (fruits f ≡ makes (bytes (group_extensions.spell xs)))
+SpellsExtensions xs (Err n) = n ≢ 1 → (n ≡ 6) × (group_extensions.Fits xs → ⊥)
+
+abbrev pub SpellsIfMember : Result Member ℕ → Result Fruit ℕ → Type 0
+SpellsIfMember (Ok m) outcome = SpellsExtensions m.public.context.extensions outcome
+SpellsIfMember (Err n) outcome = Makes (Err n) outcome
+
+-- the extensions of the group of a handle's member are spelled, and the handle holds what it held
+abbrev pub SpellsHeld : Shown → Done → Type 0
+SpellsHeld old done = SpellsIfMember (a_member old) done.outcome × (shown done.held ≡ old)
+
 -- the number of its leaves
 unfoldable pub member_leaf_count : Shown → Answer
 member_leaf_count held = a_member held >>= λ m. Ok (tells (width m.public.tree), held)
@@ -381,6 +441,14 @@ make_identity held leaf = a_member held
 unfoldable pub member_at : Shown → ℕ → Answer
 member_at held leaf = make_identity held leaf >>= λ x. Ok (x, held)
 
+-- those of the client that a KeyPackage's message offers
+unfoldable pub make_package_identity : Text → Result Fruits ℕ
+make_package_identity given = a_package given
+    >>= λ k. Ok (identifies k.leaf_node.credential.identity k.leaf_node.signature_key)
+
+unfoldable pub key_package_identity : Shown → Text → Answer
+key_package_identity held given = make_package_identity given >>= λ x. Ok (x, held)
+
 -- a secret of n bytes, exported under a label and a context
 unfoldable pub make_export : Shown → Text → Text → ℕ → Result Fruits ℕ
 make_export held label context n = a_member held
@@ -400,6 +468,16 @@ propose_extension_list given m = some_extensions given
 
 unfoldable pub member_propose_extensions : Shown → Text → Answer
 member_propose_extensions held given = on_member held (propose_extension_list given)
+
+-- the group's identifier and the epoch that a message says it is of
+abbrev pub tells_place : MessagePlace → Fruits
+tells_place p = (Some (bytes p.group_id), None, p.epoch)
+
+unfoldable pub make_place : Text → Result Fruits ℕ
+make_place given = given >>= λ xs. place_read xs >>= λ p. Ok (tells_place p)
+
+unfoldable pub message_place : Shown → Text → Answer
+message_place held given = make_place given >>= λ x. Ok (x, held)
 
 -- ---- calls on conversations
 
@@ -433,3 +511,14 @@ open_data given s = given >>= λ xs. open_message suite_0001 s xs >>= λ x. Ok (
 
 unfoldable pub conversation_open : Shown → Text → Answer
 conversation_open held given = on_conversation held (open_data given)
+
+-- the identity and the signature key of the member at a leaf, by the tree of the conversation's epoch: `NoSuchLeaf` (22)
+-- there is none
+unfoldable pub make_sender_identity : Shown → ℕ → Result Fruits ℕ
+make_sender_identity held leaf = a_conversation held
+    >>= λ s. a_leaf leaf
+    >>= λ i. require_some 22 (sender_at s.nodes i)
+    >>= λ v. Ok (identifies v.credential.identity v.signature_key)
+
+unfoldable pub conversation_member_at : Shown → ℕ → Answer
+conversation_member_at held leaf = make_sender_identity held leaf >>= λ x. Ok (x, held)

@@ -35,6 +35,18 @@ begins_at p n q m made = record (loads_at p n made) { second = q; second_length 
 abbrev pub takes_at : Ptr → Ptr → ℕ → Ptr → Passed
 takes_at h p n made = record (loads_at p n made) { handle = h }
 
+-- a text, of which it makes two handles
+abbrev pub reads_at : Ptr → ℕ → Ptr → Ptr → Passed
+reads_at p n made other = record (loads_at p n made) { other = other }
+
+-- a text, of which it makes a handle and tells a number
+abbrev pub places_at : Ptr → ℕ → Ptr → Ptr → Passed
+places_at p n made value = record (loads_at p n made) { value = value }
+
+-- a handle and a text, of which it tells a number and makes a handle
+abbrev pub inspects_at : Ptr → Ptr → ℕ → Ptr → Ptr → Passed
+inspects_at h p n value made = record (takes_at h p n made) { value = value }
+
 -- a handle and two texts, of which it makes a handle
 abbrev pub gives_at : Ptr → Ptr → ℕ → Ptr → ℕ → Ptr → Passed
 gives_at h p n q m made = record (begins_at p n q m made) { handle = h }

@@ -59,4 +59,20 @@ pub enum Call {
     ConversationOpen,
     /// A member's commit of a list.
     MemberCommit,
+    /// What a message would do to a member, and the member after it.
+    MemberInspect,
+    /// The reference of a kept proposal, by its message.
+    MemberReference,
+    /// The extensions that a member's group carries.
+    MemberExtensions,
+    /// The identity and the signature key in a KeyPackage's message.
+    KeyPackageIdentity,
+    /// The identity and the signature key of the member at a leaf, in a conversation.
+    ConversationMemberAt,
+    /// A member forgets a kept proposal.
+    MemberForgetProposal,
+    /// The message of a member's pending commit.
+    MemberPendingCommit,
+    /// The group and the epoch that a message says it is of.
+    MessagePlace,
 }

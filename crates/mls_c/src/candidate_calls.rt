@@ -2,8 +2,8 @@
 
 ghost use types.Logic.{sem};
 ghost use Rattle.mls_c.specs.Memory.{Asked, asked_at, answered_at};
-ghost use Rattle.mls_c.specs.Passing.{begins_at, loads_at, makes_at};
-ghost use Rattle.mls_c.specs.declared.call.Call.TheVariants.{CandidateNew, CandidateKeyPackage, CandidateSave, CandidateLoad};
+ghost use Rattle.mls_c.specs.Passing.{begins_at, loads_at, makes_at, reads_at};
+ghost use Rattle.mls_c.specs.declared.call.Call.TheVariants.{CandidateNew, CandidateKeyPackage, CandidateSave, CandidateLoad, KeyPackageIdentity};
 
 use crate::held::Handle;
 use crate::run::run_call;
@@ -86,5 +86,29 @@ pub unsafe extern "C" fn mls_candidate_load(
         CandidateLoad,
         first = (saved, saved_length),
         made = candidate
+    )
+}
+
+/// The identity and the signature key of the client that a KeyPackage's message offers (RFC 9420, 10).
+#[unsafe(no_mangle)]
+pub unsafe extern "C" fn mls_key_package_identity(
+    alloc: Global,
+    key_package: *const u8,
+    key_package_length: usize,
+    identity: *mut *mut Handle,
+    signature_key: *mut *mut Handle,
+) -> u32
+    ghost asked: { Asked }
+    requires* memory { sem 𝓛 (asked_at
+        (reads_at key_package key_package_length identity signature_key) asked) }
+    ensures* memory { sem 𝓛 (answered_at KeyPackageIdentity 0
+        (reads_at key_package key_package_length identity signature_key) asked result) }
+{
+    run_call!(
+        alloc,
+        KeyPackageIdentity,
+        first = (key_package, key_package_length),
+        made = identity,
+        other = signature_key
     )
 }

@@ -2,8 +2,8 @@
 
 ghost use types.Logic.{sem};
 ghost use Rattle.mls_c.specs.Memory.{Asked, asked_at, answered_at};
-ghost use Rattle.mls_c.specs.Passing.{makes_at, opens_at, seals_at};
-ghost use Rattle.mls_c.specs.declared.call.Call.TheVariants.{ConversationNew, ConversationSeal, ConversationOpen};
+ghost use Rattle.mls_c.specs.Passing.{finds_at, makes_at, opens_at, seals_at};
+ghost use Rattle.mls_c.specs.declared.call.Call.TheVariants.{ConversationNew, ConversationSeal, ConversationOpen, ConversationMemberAt};
 
 use crate::held::Handle;
 use crate::run::run_call;
@@ -86,5 +86,29 @@ pub unsafe extern "C" fn mls_conversation_open(
         made = application_data,
         other = authenticated_data,
         value = sender
+    )
+}
+
+/// The identity and the signature key of the member at a leaf, as the tree of the conversation's epoch has them.
+#[unsafe(no_mangle)]
+pub unsafe extern "C" fn mls_conversation_member_at(
+    alloc: Global,
+    conversation: *mut Handle,
+    leaf: u64,
+    identity: *mut *mut Handle,
+    signature_key: *mut *mut Handle,
+) -> u32
+    ghost asked: { Asked }
+    requires* memory { sem 𝓛 (asked_at (finds_at conversation identity signature_key) asked) }
+    ensures* memory { sem 𝓛 (answered_at ConversationMemberAt leaf
+        (finds_at conversation identity signature_key) asked result) }
+{
+    run_call!(
+        alloc,
+        ConversationMemberAt,
+        number = leaf,
+        handle = conversation,
+        made = identity,
+        other = signature_key
     )
 }

@@ -10,7 +10,7 @@ use crate::call::Call;
 use crate::done::Done;
 use crate::given::Given;
 use crate::held::Held;
-use crate::{candidates, commits, conversations, members, names, saved, seen};
+use crate::{candidates, commits, conversations, identities, members, names, saved, seen};
 use std::alloc::Global;
 
 /// What a call does with a number, with what its handle holds, and with three texts.
@@ -50,7 +50,7 @@ pub(crate) fn do_call(
         Call::MemberLoad => saved::member_load(alloc, held, &first),
         Call::MemberExport => seen::member_export(alloc, held, &first, &second, number),
         Call::MemberLeafCount => seen::member_leaf_count(held),
-        Call::MemberAt => seen::member_at(alloc, held, number),
+        Call::MemberAt => identities::member_at(alloc, held, number),
         Call::MemberProposeExtensions => members::member_propose_extensions(alloc, held, &first),
         Call::MemberCommit => commits::member_commit(alloc, held, &first, number, &second),
         Call::ConversationNew => conversations::conversation_new(alloc, held),
@@ -58,5 +58,13 @@ pub(crate) fn do_call(
             conversations::conversation_seal(alloc, held, number, &first, &second, &third)
         }
         Call::ConversationOpen => conversations::conversation_open(alloc, held, &first),
+        Call::MemberInspect => members::member_inspect(alloc, held, &first),
+        Call::MemberReference => seen::member_reference(alloc, held, &first),
+        Call::MemberExtensions => seen::member_extensions(alloc, held),
+        Call::KeyPackageIdentity => identities::key_package_identity(alloc, held, &first),
+        Call::ConversationMemberAt => identities::conversation_member_at(alloc, held, number),
+        Call::MemberForgetProposal => members::member_forget_proposal(held, &first),
+        Call::MemberPendingCommit => seen::member_pending_commit(alloc, held),
+        Call::MessagePlace => identities::message_place(alloc, held, &first),
     }
 }

@@ -14,6 +14,7 @@ mod done;
 mod error;
 mod given;
 mod held;
+mod identities;
 mod loose;
 mod make;
 mod member_calls;
@@ -30,9 +31,9 @@ ghost use types.Logic.{sem};
 ghost use Rattle.mls_c.specs.Calls.{Copies};
 ghost use Rattle.mls_c.specs.Shown.{shown};
 ghost use Rattle.mls_c.specs.Memory.{Asked, asked_at, answered_at, free_answer, held_at};
-ghost use Rattle.mls_c.specs.Passing.{names_at, tells_at};
+ghost use Rattle.mls_c.specs.Passing.{names_at, places_at, tells_at};
 ghost use Rattle.mls_c.specs.declared.held.Held.{Held};
-ghost use Rattle.mls_c.specs.declared.call.Call.TheVariants.{BytesLength, BytesAt, RefusalName};
+ghost use Rattle.mls_c.specs.declared.call.Call.TheVariants.{BytesLength, BytesAt, MessagePlace, RefusalName};
 
 use copying::copy_bytes;
 pub use held::Handle;
@@ -98,4 +99,27 @@ pub unsafe extern "C" fn mls_refusal_name(alloc: Global, number: u64, name: *mut
     ensures* memory { sem 𝓛 (answered_at RefusalName number (names_at name) asked result) }
 {
     run_call!(alloc, RefusalName, number = number, made = name)
+}
+
+/// The group's identifier and the epoch that a message says it is of, which nothing checked (RFC 9420, 6).
+#[unsafe(no_mangle)]
+pub unsafe extern "C" fn mls_message_place(
+    alloc: Global,
+    message: *const u8,
+    message_length: usize,
+    group_id: *mut *mut Handle,
+    epoch: *mut u64,
+) -> u32
+    ghost asked: { Asked }
+    requires* memory { sem 𝓛 (asked_at (places_at message message_length group_id epoch) asked) }
+    ensures* memory { sem 𝓛 (answered_at MessagePlace 0
+        (places_at message message_length group_id epoch) asked result) }
+{
+    run_call!(
+        alloc,
+        MessagePlace,
+        first = (message, message_length),
+        made = group_id,
+        value = epoch
+    )
 }

@@ -2,8 +2,8 @@
 
 ghost use types.Logic.{sem};
 ghost use Rattle.mls_c.specs.Memory.{Asked, asked_at, answered_at};
-ghost use Rattle.mls_c.specs.Passing.{commits_at, finds_at, follows_at, gives_at, lists_at, loads_at, makes_at, takes_at, tells_at};
-ghost use Rattle.mls_c.specs.declared.call.Call.TheVariants.{MemberCreate, MemberJoin, MemberEpoch, MemberGroupId, MemberProcess, MemberProposeAdd, MemberProposeUpdate, MemberCommitKept, MemberProposeRemove, MemberDropPending, MemberLeafIndex, MemberSave, MemberLoad, MemberExport, MemberLeafCount, MemberAt, MemberProposeExtensions, MemberCommit};
+ghost use Rattle.mls_c.specs.Passing.{commits_at, finds_at, follows_at, gives_at, inspects_at, lists_at, loads_at, makes_at, takes_at, tells_at};
+ghost use Rattle.mls_c.specs.declared.call.Call.TheVariants.{MemberCreate, MemberJoin, MemberEpoch, MemberGroupId, MemberProcess, MemberProposeAdd, MemberProposeUpdate, MemberCommitKept, MemberProposeRemove, MemberDropPending, MemberLeafIndex, MemberSave, MemberLoad, MemberExport, MemberLeafCount, MemberAt, MemberProposeExtensions, MemberCommit, MemberInspect, MemberReference, MemberExtensions, MemberForgetProposal, MemberPendingCommit};
 
 use crate::held::Handle;
 use crate::run::run_call;
@@ -392,4 +392,106 @@ pub unsafe extern "C" fn mls_member_drop_pending(
     ensures* memory { sem 𝓛 (answered_at MemberDropPending 0 (tells_at member had) asked result) }
 {
     run_call!(alloc, MemberDropPending, handle = member, value = had)
+}
+
+/// What a message would do to a member, as a number, and the member after it; the member itself stays (RFC 9420, 12.4.2).
+#[unsafe(no_mangle)]
+pub unsafe extern "C" fn mls_member_inspect(
+    alloc: Global,
+    member: *mut Handle,
+    message: *const u8,
+    message_length: usize,
+    effect: *mut u64,
+    after: *mut *mut Handle,
+) -> u32
+    ghost asked: { Asked }
+    requires* memory { sem 𝓛 (asked_at
+        (inspects_at member message message_length effect after) asked) }
+    ensures* memory { sem 𝓛 (answered_at MemberInspect 0
+        (inspects_at member message message_length effect after) asked result) }
+{
+    run_call!(
+        alloc,
+        MemberInspect,
+        handle = member,
+        first = (message, message_length),
+        made = after,
+        value = effect
+    )
+}
+
+/// The reference of the proposal that a member keeps with a message, or none (RFC 9420, 5.2).
+#[unsafe(no_mangle)]
+pub unsafe extern "C" fn mls_member_reference(
+    alloc: Global,
+    member: *mut Handle,
+    message: *const u8,
+    message_length: usize,
+    reference: *mut *mut Handle,
+) -> u32
+    ghost asked: { Asked }
+    requires* memory { sem 𝓛 (asked_at (takes_at member message message_length reference) asked) }
+    ensures* memory { sem 𝓛 (answered_at MemberReference 0
+        (takes_at member message message_length reference) asked result) }
+{
+    run_call!(
+        alloc,
+        MemberReference,
+        handle = member,
+        first = (message, message_length),
+        made = reference
+    )
+}
+
+/// The extensions that a member's group carries (RFC 9420, 8.1).
+#[unsafe(no_mangle)]
+pub unsafe extern "C" fn mls_member_extensions(
+    alloc: Global,
+    member: *mut Handle,
+    extensions: *mut *mut Handle,
+) -> u32
+    ghost asked: { Asked }
+    requires* memory { sem 𝓛 (asked_at (makes_at member extensions) asked) }
+    ensures* memory { sem 𝓛 (answered_at MemberExtensions 0
+        (makes_at member extensions) asked result) }
+{
+    run_call!(alloc, MemberExtensions, handle = member, made = extensions)
+}
+
+/// A member forgets the proposal that it keeps under a reference: 1 there was one, 0 there was none.
+#[unsafe(no_mangle)]
+pub unsafe extern "C" fn mls_member_forget_proposal(
+    alloc: Global,
+    member: *mut Handle,
+    reference: *const u8,
+    reference_length: usize,
+    had: *mut u64,
+) -> u32
+    ghost asked: { Asked }
+    requires* memory { sem 𝓛 (asked_at (follows_at member reference reference_length had) asked) }
+    ensures* memory { sem 𝓛 (answered_at MemberForgetProposal 0
+        (follows_at member reference reference_length had) asked result) }
+{
+    run_call!(
+        alloc,
+        MemberForgetProposal,
+        handle = member,
+        first = (reference, reference_length),
+        value = had
+    )
+}
+
+/// The message of a member's pending commit, or none (RFC 9420, 12.4.1).
+#[unsafe(no_mangle)]
+pub unsafe extern "C" fn mls_member_pending_commit(
+    alloc: Global,
+    member: *mut Handle,
+    commit: *mut *mut Handle,
+) -> u32
+    ghost asked: { Asked }
+    requires* memory { sem 𝓛 (asked_at (makes_at member commit) asked) }
+    ensures* memory { sem 𝓛 (answered_at MemberPendingCommit 0
+        (makes_at member commit) asked result) }
+{
+    run_call!(alloc, MemberPendingCommit, handle = member, made = commit)
 }

@@ -2,7 +2,7 @@
 
 ghost use Rattle.std.specs.Prelude.{◌≡◌};
 ghost use Rattle.mls_wire.specs.Checks.{Answers, AnswersOutright};
-ghost use Rattle.mls_c.specs.Calls.{Changes, Does, a_package, propose_package, effect_number, member_process, member_propose_add, member_propose_update, on_member, package_in, follow_message, propose_key, propose_removal, member_propose_remove, forget_pending, member_drop_pending, propose_extension_list, some_extensions, member_propose_extensions};
+ghost use Rattle.mls_c.specs.Calls.{Changes, Does, Makes, a_package, propose_package, effect_number, member_process, member_propose_add, member_propose_update, on_member, package_in, follow_message, propose_key, propose_removal, member_propose_remove, forget_pending, member_drop_pending, propose_extension_list, some_extensions, member_propose_extensions, make_inspection, member_inspect, shows_member, forget_given, member_forget_proposal};
 ghost use Rattle.mls_model.specs.Messages.{decode_message};
 ghost use Rattle.mls_c.specs.Given.{text};
 ghost use Rattle.mls_c.specs.Shown.{fruits, shown};
@@ -13,9 +13,11 @@ use crate::error::MisuseError;
 use crate::given::{Given, OUT_OF_MEMORY};
 use crate::held::Held;
 use crate::make::{fill_bytes, number, room};
-use crate::taken::{bytes_in, leaf_of, seed_of, take_member};
-use mls::{Effect, GroupExtensions, KeyPackage, Member, MlsMessage, ShortKeyPackage, Suite0001};
-use mls_leaf::Codec;
+use crate::taken::{bytes_in, leaf_of, member_of, seed_of, take_member};
+use mls::{
+    Codec, Effect, GroupExtensions, Inspection, KeyPackage, Member, MlsMessage, ShortKeyPackage,
+    Suite0001,
+};
 use std::alloc::Global;
 
 /// What a message did, as a number.
@@ -55,6 +57,43 @@ pub(crate) fn member_process(held: Held, message: &Given) -> Done
         }
         Err((held, number)) => Done::of_refusal(held, number),
     }
+}
+
+/// What an inspection shows: the member, in a handle, and the effect, as a number.
+fn fill_inspection(mut room: Box<Held>, found: Inspection<Suite0001>) -> Fruit
+    ensures { fruits result ≡ shows_member found.effect found.member }
+{
+    let Inspection { effect, member } = found;
+    *room = Held::Member(member);
+    Fruit {
+        made: Some(room),
+        other: None,
+        value: effect_number(effect),
+    }
+}
+
+/// What a message would do to the member of a handle, and the member after it.
+#[tactic(auto, unfolding(crate::specs::Calls::make_inspection))]
+fn make_inspection(alloc: Global, held: &Held, message: &Given) -> Result<Fruit, u32>
+    ensures { Makes (make_inspection (shown held.now) (text message.now)) result }
+{
+    let member = member_of(held)?;
+    let message = bytes_in(message)?;
+    let room = room(alloc)?;
+    match member.inspect(message) {
+        Ok(found) => Ok(fill_inspection(room, found)),
+        Err(error) => Err(error.number() as u32),
+    }
+}
+
+/// What a message would do to a member, and the member after it, in a handle; the member itself stays.
+#[tactic(auto, unfolding(crate::specs::Calls::member_inspect))]
+pub(crate) fn member_inspect(alloc: Global, held: Held, message: &Given) -> Done
+    ensures does { Does (member_inspect (shown held) (text message.now)) (shown held) result }
+    ensures stays { held ≡ Nothing → result.held ≡ Nothing }
+{
+    let outcome = make_inspection(alloc, &held, message);
+    Done { held, outcome }
 }
 
 /// The KeyPackage in a message.
@@ -111,7 +150,7 @@ fn message_of(alloc: Global, bytes: &[u8]) -> Result<MlsMessage, u32>
 
 /// The KeyPackage in bytes. One that was decoded is short, so what refuses it then is memory alone.
 #[tactic(auto, unfolding(crate::specs::Calls::a_package))]
-fn package_of(alloc: Global, bytes: &Given) -> Result<ShortKeyPackage, u32>
+pub(crate) fn package_of(alloc: Global, bytes: &Given) -> Result<ShortKeyPackage, u32>
     ensures { Answers (λ k. k) (λ n. n) (a_package (text bytes.now)) result }
 {
     let bytes = bytes_in(bytes)?;
@@ -195,6 +234,34 @@ pub(crate) fn member_drop_pending(held: Held) -> Done
         Ok(mut member) => {
             let had = if member.drop_pending() { 1 } else { 0 };
             Done::of_member(member, Ok(number(had)))
+        }
+        Err((held, number)) => Done::of_refusal(held, number),
+    }
+}
+
+/// The proposal that a member keeps under a reference is forgotten.
+#[tactic(auto, unfolding(crate::specs::Calls::forget_given))]
+fn forget_given(member: &mut Member<Suite0001>, reference: &Given) -> Result<Fruit, u32>
+    ensures { Changes (forget_given (text reference.now) member.old) member.old member.new result }
+{
+    let reference = bytes_in(reference)?;
+    match member.forget_proposal(reference) {
+        Ok(had) => Ok(number(if had { 1 } else { 0 })),
+        Err(error) => Err(error.number() as u32),
+    }
+}
+
+/// A kept proposal of a handle's member is forgotten.
+#[tactic(auto, unfolding(crate::specs::Calls::member_forget_proposal, crate::specs::Calls::on_member, crate::specs::Calls::a_member))]
+pub(crate) fn member_forget_proposal(held: Held, reference: &Given) -> Done
+    ensures does { Does (member_forget_proposal (shown held) (text reference.now))
+        (shown held) result }
+    ensures stays { held ≡ Nothing → result.held ≡ Nothing }
+{
+    match take_member(held) {
+        Ok(mut member) => {
+            let outcome = forget_given(&mut member, reference);
+            Done::of_member(member, outcome)
         }
         Err((held, number)) => Done::of_refusal(held, number),
     }

@@ -1,19 +1,19 @@
-//! Calls that look at a member's group.
+//! Calls that look at a member: its group, its secrets, what it keeps.
 
 ghost use Rattle.std.specs.Prelude.{◌≡◌, ◌≤◌, MatchResult, length};
 ghost use Rattle.mls_kdf.specs.Kdf.{max_output};
 ghost use Rattle.mls_schedule.specs.Epoch.{export_secret};
-ghost use Rattle.mls_c.specs.Calls.{Does, TellsMember, Makes, make_export, make_identity, member_at, member_export, member_leaf_count};
+ghost use Rattle.mls_c.specs.Calls.{Does, Makes, SpellsExtensions, SpellsHeld, SpellsIfMember, a_member, make_export, make_pending_commit, make_reference, member_export, member_leaf_count, member_pending_commit, member_reference};
 ghost use Rattle.mls_c.specs.Given.{text};
 ghost use Rattle.mls_c.specs.Shown.{shown};
 ghost use Rattle.mls_c.specs.declared.held.Held.TheVariants.{Nothing};
 
 use crate::done::{Done, Fruit};
-use crate::given::{Given, OUT_OF_MEMORY, copy_of};
+use crate::given::{Given, OUT_OF_MEMORY};
 use crate::held::Held;
-use crate::make::{fill_bytes, number, room, two};
-use crate::taken::{NO_SUCH_LEAF, bytes_in, label_of, leaf_of, member_of, output_of};
-use mls::{Bytes, Epoch, GroupMember};
+use crate::make::{fill_bytes, fill_copy, number, room};
+use crate::taken::{bytes_in, label_of, member_of, output_of};
+use mls::{Codec, Epoch, Member, Suite0001};
 use std::alloc::Global;
 
 /// The number of leaves of a member's group.
@@ -26,40 +26,6 @@ pub(crate) fn member_leaf_count(held: Held) -> Done
         Ok(member) => Ok(number(member.group().tree().leaf_count() as u64)),
         Err(number) => Err(number),
     };
-    Done { held, outcome }
-}
-
-/// The identity and the signature key of a member of a group, in handles, or `OutOfMemory` (1).
-fn tell_member(alloc: Global, found: GroupMember<'_>) -> Result<Fruit, u32>
-    ensures { TellsMember found.entry.identity found.entry.signature_key result }
-{
-    let identity_room = room(alloc)?;
-    let key_room = room(alloc)?;
-    let identity = Bytes::from_vec(copy_of(alloc, found.identity)?);
-    let key = Bytes::from_vec(copy_of(alloc, found.signature_key)?);
-    Ok(two(identity_room, key_room, identity, Some(key), 0))
-}
-
-/// The identity and the signature key of the member at a leaf, in handles, or `NoSuchLeaf` (22).
-#[tactic(auto, unfolding(crate::specs::Calls::make_identity))]
-fn make_identity(alloc: Global, held: &Held, leaf: u64) -> Result<Fruit, u32>
-    ensures { Makes (make_identity (shown held.now) leaf) result }
-{
-    let member = member_of(held)?;
-    let leaf = leaf_of(leaf)?;
-    match member.member_at(leaf) {
-        Some(found) => tell_member(alloc, found),
-        None => Err(NO_SUCH_LEAF),
-    }
-}
-
-/// The identity and the signature key of the member at a leaf.
-#[tactic(auto, unfolding(crate::specs::Calls::member_at))]
-pub(crate) fn member_at(alloc: Global, held: Held, leaf: u64) -> Done
-    ensures does { Does (member_at (shown held) leaf) (shown held) result }
-    ensures stays { held ≡ Nothing → result.held ≡ Nothing }
-{
-    let outcome = make_identity(alloc, &held, leaf);
     Done { held, outcome }
 }
 
@@ -121,5 +87,81 @@ pub(crate) fn member_export(
     ensures stays { held ≡ Nothing → result.held ≡ Nothing }
 {
     let outcome = make_export(alloc, &held, label, context, count);
+    Done { held, outcome }
+}
+
+/// The extensions that a member's group carries, spelled, in a handle.
+#[tactic(auto, using(crate::proofs::Decoded::unsaved))]
+fn spell_extensions(alloc: Global, member: &Member<Suite0001>) -> Result<Fruit, u32>
+    ensures { SpellsExtensions member.now.public.context.extensions result }
+{
+    let room = room(alloc)?;
+    match member.group().context().extensions.encode(alloc) {
+        Ok(bytes) => Ok(fill_bytes(room, bytes)),
+        Err(error) => Err(error.number() as u32),
+    }
+}
+
+/// The extensions that the group of a handle's member carries, spelled, in a handle.
+fn make_extensions(alloc: Global, held: &Held) -> Result<Fruit, u32>
+    ensures { SpellsIfMember (a_member (shown held.now)) result }
+{
+    match member_of(held) {
+        Ok(member) => spell_extensions(alloc, member),
+        Err(number) => Err(number),
+    }
+}
+
+/// The extensions that a member's group carries (RFC 9420, 8.1).
+pub(crate) fn member_extensions(alloc: Global, held: Held) -> Done
+    ensures does { SpellsHeld (shown held) result }
+    ensures stays { held ≡ Nothing → result.held ≡ Nothing }
+{
+    let outcome = make_extensions(alloc, &held);
+    Done { held, outcome }
+}
+
+/// The reference of the proposal that a handle's member keeps with a message, in a handle, if it keeps one.
+#[tactic(auto, unfolding(crate::specs::Calls::make_reference))]
+fn make_reference(alloc: Global, held: &Held, message: &Given) -> Result<Fruit, u32>
+    ensures { Makes (make_reference (shown held.now) (text message.now)) result }
+{
+    let member = member_of(held)?;
+    let message = bytes_in(message)?;
+    match member.reference_of(message) {
+        Some(reference) => fill_copy(alloc, reference.as_slice()),
+        None => Ok(number(0)),
+    }
+}
+
+/// The reference of a kept proposal, by its message (RFC 9420, 5.2).
+#[tactic(auto, unfolding(crate::specs::Calls::member_reference))]
+pub(crate) fn member_reference(alloc: Global, held: Held, message: &Given) -> Done
+    ensures does { Does (member_reference (shown held) (text message.now)) (shown held) result }
+    ensures stays { held ≡ Nothing → result.held ≡ Nothing }
+{
+    let outcome = make_reference(alloc, &held, message);
+    Done { held, outcome }
+}
+
+/// The message of the pending commit of a handle's member, in a handle, if there is one.
+#[tactic(auto, unfolding(crate::specs::Calls::make_pending_commit))]
+fn make_pending_commit(alloc: Global, held: &Held) -> Result<Fruit, u32>
+    ensures { Makes (make_pending_commit (shown held.now)) result }
+{
+    let member = member_of(held)?;
+    match member.pending_message() {
+        Some(message) => fill_copy(alloc, message),
+        None => Ok(number(0)),
+    }
+}
+
+/// The message of a member's pending commit (RFC 9420, 12.4.1).
+#[tactic(auto, unfolding(crate::specs::Calls::member_pending_commit))]
+pub(crate) fn member_pending_commit(alloc: Global, held: Held) -> Done
+    ensures does { Does (member_pending_commit (shown held)) (shown held) result }
+    ensures stays { held ≡ Nothing → result.held ≡ Nothing }
+{
+    let outcome = make_pending_commit(alloc, &held);
     Done { held, outcome }
 }

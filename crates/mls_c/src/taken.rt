@@ -3,7 +3,7 @@
 ghost use Rattle.std.specs.Prelude.{◌≡◌, ◌≤◌, IfOk, length};
 ghost use Rattle.mls_kdf.specs.Kdf.{max_output};
 ghost use Rattle.mls_wire.specs.Checks.{AnswersOutright};
-ghost use Rattle.mls_c.specs.Calls.{TakesConversation, TakesMember, a_candidate, a_label, a_leaf, a_member, a_seed, an_output, some_bytes};
+ghost use Rattle.mls_c.specs.Calls.{TakesConversation, TakesMember, a_candidate, a_conversation, a_label, a_leaf, a_member, a_seed, an_output, some_bytes};
 ghost use Rattle.mls_c.specs.Given.{text};
 ghost use Rattle.mls_c.specs.Shown.{shown};
 
@@ -37,6 +37,20 @@ pub(crate) fn member_of(held: &Held) -> Result<&Member<Suite0001>, u32>
         Held::Member(member) => Ok(member),
         Held::Nothing => Err(MisuseError::NullHandle.number()),
         Held::Bytes(_) | Held::Candidate(_) | Held::Conversation(_) => {
+            Err(MisuseError::OtherHandle.number())
+        }
+    }
+}
+
+/// The conversation of a handle.
+#[tactic(auto, unfolding(crate::specs::Calls::a_conversation))]
+pub(crate) fn conversation_of(held: &Held) -> Result<&Conversation<Suite0001>, u32>
+    ensures { AnswersOutright (λ s. s.now) (λ n. n) (a_conversation (shown held.now)) result }
+{
+    match held {
+        Held::Conversation(conversation) => Ok(conversation),
+        Held::Nothing => Err(MisuseError::NullHandle.number()),
+        Held::Bytes(_) | Held::Candidate(_) | Held::Member(_) => {
             Err(MisuseError::OtherHandle.number())
         }
     }
