@@ -24,7 +24,7 @@ about_bytes =
     ∷ (4, told (codes "no length begins so") (codes "a length header doesn't begin with the bits 11 (RFC 9420, 2.1.2)") (codes "write lengths below 2^30 in one, two or four bytes"))
     ∷ (5, told (codes "a length has a shorter form") (codes "a length has its shortest header (RFC 9420, 2.1.2)") (codes "write lengths below 64 in one byte and below 16384 in two"))
     ∷ (6, told (codes "too long") (codes "inputs and made messages have at most 67108864 bytes") (codes "send less: fewer members, proposals or shorter identities"))
-    ∷ (7, told (codes "an unknown tag") (codes "versions, wire formats and kinds are those of this profile") (codes "send version 1, and a message of another kind than PrivateMessage"))
+    ∷ (7, told (codes "an unknown tag") (codes "versions, wire formats and kinds are those of this profile") (codes "send version 1, and a message of another kind than PrivateMessage; a tree is for mls check"))
     ∷ []
 
 -- refusals of texts and of what is read
@@ -36,7 +36,7 @@ about_texts =
     ∷ (11, told (codes "an unsupported credential") (codes "a credential is of type 1, basic (RFC 9420, 5.3)") (codes "use basic credentials"))
     ∷ (12, told (codes "an unsupported proposal") (codes "a proposal is add, update, remove or group_context_extensions (RFC 9420, 12.1)") (codes "use these proposals alone"))
     ∷ (13, told (codes "entries do not rise") (codes "unmerged leaves rise strictly (RFC 9420, 7.1)") (codes "list each unmerged leaf once, the smallest first"))
-    ∷ (14, told (codes "an extension is not allowed here") (codes "extensions stand only in a GroupInfo, as ratchet_tree, and in a group, of types from f000 on") (codes "leave the other extensions out"))
+    ∷ (14, told (codes "an extension is not allowed here") (codes "extensions stand only in a GroupInfo, as ratchet_tree, and in a group, of types from f000 on, each once") (codes "leave the other extensions out"))
     ∷ []
 
 -- refusals of trees
@@ -58,7 +58,7 @@ about_paths =
     ∷ (31, told (codes "a number of ciphertexts is wrong") (codes "a node of a path has a ciphertext for each node of its copath's resolution (RFC 9420, 7.6)") (codes "the sender seals anew, and not to members that this commit adds"))
     ∷ (32, told (codes "the path secret doesn't open") (codes "a ciphertext of the path opens under a key that the member holds (RFC 9420, 7.5)") (codes "the receiver asks for a Welcome; the sender seals to the keys of its tree"))
     ∷ (33, told (codes "a path secret of another length") (codes "a path secret has 32 bytes") (codes "the sender makes its path anew"))
-    ∷ (34, told (codes "a path secret of another key") (codes "each derived key is that of the path or the tree (RFC 9420, 7.5 and 12.4.3.1)") (codes "the receiver drops the message; the sender derives its keys from the path secrets"))
+    ∷ (34, told (codes "a path secret of another key") (codes "each derived key is the path's or the tree's, from a parent over a joiner on that doesn't list it (RFC 9420, 7.5 and 12.4.3.1)") (codes "the receiver drops the message; the sender derives its keys from the path secrets"))
     ∷ (35, told (codes "a private key is missing") (codes "a joiner is sent the key of each parent over it that doesn't list it") (codes "the committer puts the path secret into the Welcome"))
     ∷ (36, told (codes "a key is not fit for use") (codes "a public key is one that the suite takes") (codes "the sender makes a fresh key; of a tree, see that --suite is the group's"))
     ∷ []
@@ -79,11 +79,11 @@ about_messages =
 abbrev pub about_references : List (ℕ × Told)
 about_references =
     (47, told (codes "the signature doesn't verify") (codes "the content is signed by the sender's leaf (RFC 9420, 6.1)") (codes "the receiver drops the message; the sender signs with the key of its leaf"))
-    ∷ (48, told (codes "an own message that isn't kept") (codes "a message from the member's own leaf is one that it keeps") (codes "deliver it before another commit of the member, or drop it"))
+    ∷ (48, told (codes "an own message that isn't kept") (codes "a message from the member's own leaf is one that it keeps") (codes "drop it; a member whose group follows such a commit is added anew"))
     ∷ (49, told (codes "the reference is taken") (codes "another kept proposal hasn't the reference") (codes "deliver the proposal that is there already"))
     ∷ (50, told (codes "the leaf has another source") (codes "a KeyPackage's leaf is of the source key_package, an update's update, a path's commit (RFC 9420, 7.3)") (codes "the sender makes a leaf for its place"))
     ∷ (51, told (codes "the leaf's signature does not verify") (codes "a leaf is signed by its own key, in a group for its group and index (RFC 9420, 7.3)") (codes "the receiver drops it; of a tree, see that --group and --suite are the group's"))
-    ∷ (52, told (codes "the leaf lacks a capability") (codes "a leaf lists version 1, the group's suite and credential 1 (RFC 9420, 7.2)") (codes "the sender lists them"))
+    ∷ (52, told (codes "the leaf lacks a capability") (codes "a leaf lists version 1, the group's suite and credential 1 (RFC 9420, 7.2)") (codes "the sender lists them; of a tree, see that --suite is the group's"))
     ∷ (53, told (codes "the leaf has another identity") (codes "a leaf replaces one of the same signature key and credential") (codes "remove the member, and add it under its new identity"))
     ∷ []
 
@@ -119,7 +119,7 @@ about_epochs =
 abbrev pub about_welcomes : List (ℕ × Told)
 about_welcomes =
     (70, told (codes "no Welcome") (codes "a candidate joins by a Welcome") (codes "deliver the Welcome that the committer made"))
-    ∷ (71, told (codes "another suite") (codes "the Welcome and its group are of the candidate's suite") (codes "the candidate makes a KeyPackage of the group's suite"))
+    ∷ (71, told (codes "another suite") (codes "the Welcome and its group are of the candidate's suite") (codes "the candidate makes a KeyPackage of the group's suite; of a GroupInfo, give its --suite"))
     ∷ (72, told (codes "no entry for the candidate") (codes "the Welcome has an entry with the reference of the candidate's KeyPackage (RFC 9420, 12.4.3.1)") (codes "deliver the Welcome of the commit that added this KeyPackage"))
     ∷ (73, told (codes "the secrets can't be read") (codes "the entry opens under the init key, and is a GroupSecrets with secrets of 32 bytes") (codes "the committer seals to the init key of the KeyPackage"))
     ∷ (74, told (codes "a pre-shared key is asked for") (codes "the secrets name no pre-shared key") (codes "the committer leaves pre-shared keys out"))
@@ -144,7 +144,7 @@ about_worlds =
     ∷ (92, told (codes "no such candidate") (codes "a candidate has the number") (codes "count candidates from 0"))
     ∷ (93, told (codes "the candidate is repeated") (codes "no other candidate has the signature key of this seed") (codes "give another seed"))
     ∷ (94, told (codes "no such message") (codes "a message has the number") (codes "count messages from 0, a commit's before its Welcome's"))
-    ∷ (95, told (codes "another kind of message") (codes "the bytes are a message of the kind that the event takes") (codes "give the message of a KeyPackage to propose_add, of a proposal to a ref"))
+    ∷ (95, told (codes "another kind of message") (codes "the bytes are a message of the kind that is asked for") (codes "give a KeyPackage's message to propose_add, a proposal's to a ref, a GroupInfo's to --group-info"))
     ∷ []
 
 -- refusals of saved forms, with their names

@@ -93,7 +93,7 @@ fn about_bytes(number: u8) -> Option<Explanation>
         7 => told(
             "an unknown tag",
             "versions, wire formats and kinds are those of this profile",
-            "send version 1, and a message of another kind than PrivateMessage",
+            "send version 1, and a message of another kind than PrivateMessage; a tree is for mls check",
         ),
         _ => None,
     }
@@ -136,7 +136,7 @@ fn about_texts(number: u8) -> Option<Explanation>
         ),
         14 => told(
             "an extension is not allowed here",
-            "extensions stand only in a GroupInfo, as ratchet_tree, and in a group, of types from f000 on",
+            "extensions stand only in a GroupInfo, as ratchet_tree, and in a group, of types from f000 on, each once",
             "leave the other extensions out",
         ),
         _ => None,
@@ -214,7 +214,7 @@ fn about_paths(number: u8) -> Option<Explanation>
         ),
         34 => told(
             "a path secret of another key",
-            "each derived key is that of the path or the tree (RFC 9420, 7.5 and 12.4.3.1)",
+            "each derived key is the path's or the tree's, from a parent over a joiner on that doesn't list it (RFC 9420, 7.5 and 12.4.3.1)",
             "the receiver drops the message; the sender derives its keys from the path secrets",
         ),
         35 => told(
@@ -288,7 +288,7 @@ fn about_references(number: u8) -> Option<Explanation>
         48 => told(
             "an own message that isn't kept",
             "a message from the member's own leaf is one that it keeps",
-            "deliver it before another commit of the member, or drop it",
+            "drop it; a member whose group follows such a commit is added anew",
         ),
         49 => told(
             "the reference is taken",
@@ -308,7 +308,7 @@ fn about_references(number: u8) -> Option<Explanation>
         52 => told(
             "the leaf lacks a capability",
             "a leaf lists version 1, the group's suite and credential 1 (RFC 9420, 7.2)",
-            "the sender lists them",
+            "the sender lists them; of a tree, see that --suite is the group's",
         ),
         53 => told(
             "the leaf has another identity",
@@ -424,7 +424,7 @@ fn about_welcomes(number: u8) -> Option<Explanation>
         71 => told(
             "another suite",
             "the Welcome and its group are of the candidate's suite",
-            "the candidate makes a KeyPackage of the group's suite",
+            "the candidate makes a KeyPackage of the group's suite; of a GroupInfo, give its --suite",
         ),
         72 => told(
             "no entry for the candidate",
@@ -516,8 +516,8 @@ fn about_worlds(number: u8) -> Option<Explanation>
         ),
         95 => told(
             "another kind of message",
-            "the bytes are a message of the kind that the event takes",
-            "give the message of a KeyPackage to propose_add, of a proposal to a ref",
+            "the bytes are a message of the kind that is asked for",
+            "give a KeyPackage's message to propose_add, a proposal's to a ref, a GroupInfo's to --group-info",
         ),
         _ => None,
     }

@@ -1,10 +1,11 @@
 //! What is said of a file that is no hex text, but binary or JSON.
 
-ghost use Rattle.std.specs.Prelude.{◌≡◌, is_some, slice_get};
+ghost use Rattle.std.specs.Prelude.{◌≡◌, is_some};
 ghost use Rattle.std.specs.List.{list_any};
+ghost use Rattle.std.specs.Option.{option_copied};
 ghost use Rattle.mls_cli_text.specs.Form.{bytes_of_file};
 ghost use Rattle.mls_cli_text.specs.HexFile.{is_blank};
-ghost use Rattle.mls_cli_serve.specs.Hints.{hint, hint_of_text, is_binary, is_control, opens_json};
+ghost use Rattle.mls_cli_serve.specs.Hints.{first_ink, hint, hint_of_text, is_binary, is_control, opens_json};
 
 use mls_cli_text::{Form, is_hex_file};
 
@@ -43,11 +44,19 @@ fn has_binary(text: &[u8]) -> bool
     text.iter().any(|byte| is_binary(*byte))
 }
 
+/// The first byte that is no blank.
+#[tactic(auto, unfolding(crate::specs::Hints::first_ink))]
+fn first_ink(text: &[u8]) -> Option<&u8>
+    ensures { option_copied result ≡ first_ink text.now }
+{
+    text.iter().find(|byte| !is_blank(**byte))
+}
+
 /// Whether an object or an array of JSON begins.
 fn opens_json(text: &[u8]) -> bool
-    ensures { result ≡ opens_json (slice_get text.now 0) }
+    ensures { result ≡ opens_json (first_ink text.now) }
 {
-    match text.first() {
+    match first_ink(text) {
         Some(byte) => *byte == b'{' || *byte == b'[',
         None => false,
     }

@@ -37,7 +37,11 @@ pub fn replay_command<'a>(alloc: Global) -> Result<Command<'a>, AllocError>
         "tree",
         "Prints this member's ratchet tree in hex, in place of the replies",
     );
-    let quiet = flag_arg(alloc, "quiet", "Leaves out replies that are as expected");
+    let quiet = flag_arg(
+        alloc,
+        "quiet",
+        "Leaves out replies that are as expected, or of which nothing is",
+    );
     let record = flag_arg(
         alloc,
         "record",
