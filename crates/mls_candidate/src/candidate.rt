@@ -33,7 +33,6 @@ const TOO_LONG: CandidateError = CandidateError::Leaf(LeafError::Wire(WireError:
 
 /// A candidate for membership: its KeyPackage, and the private keys of its init key, of its leaf and of its signatures
 /// (RFC 9420, 10).
-#[derive(Drop)]
 pub struct Candidate<S: Suite> {
     offered: KeyPackage,
     message: Vec<u8>,
@@ -41,6 +40,19 @@ pub struct Candidate<S: Suite> {
     leaf: Secret,
     signing: Secret,
     suite: PhantomData<S>,
+}
+
+impl<S: Suite> Drop for Candidate<S> {
+    fn drop(self) {
+        let Candidate {
+            offered: _,
+            message: _,
+            init: _,
+            leaf: _,
+            signing: _,
+            suite: _,
+        } = self;
+    }
 }
 
 impl<S: Suite> Model for Candidate<S> {

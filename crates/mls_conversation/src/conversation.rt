@@ -17,9 +17,14 @@ use std::alloc::Global;
 use std::marker::Model;
 
 /// What one member seals and opens the application messages of one epoch with (RFC 9420, 6.3 and 9).
-#[derive(Drop)]
 pub struct Conversation<S: Suite> {
     exchange: Exchange<S>,
+}
+
+impl<S: Suite> Drop for Conversation<S> {
+    fn drop(self) {
+        let Conversation { exchange: _ } = self;
+    }
 }
 
 impl<S: Suite> Model for Conversation<S> {

@@ -46,11 +46,20 @@ pub struct Parts {
 }
 
 /// What one member seals and opens application messages of one epoch with. It shares the nodes of the ratchet tree.
-#[derive(Drop)]
 pub struct Exchange<S: Suite> {
     pub(crate) parts: Parts,
     pub(crate) alloc: Global,
     pub(crate) suite: PhantomData<S>,
+}
+
+impl<S: Suite> Drop for Exchange<S> {
+    fn drop(self) {
+        let Exchange {
+            parts: _,
+            alloc: _,
+            suite: _,
+        } = self;
+    }
 }
 
 impl<S: Suite> Model for Exchange<S> {

@@ -26,7 +26,6 @@ use std::marker::{Model, PhantomData};
 /// Is a member of a group: the public state of the group, the epoch's secrets, its private keys, the proposals that it
 /// keeps, and its pending commit. One that a good candidate created or joined as is good, and stays so over each call:
 /// its tree is good, and it holds exactly the private keys that are due to it.
-#[derive(Drop)]
 pub struct Member<S: Suite> {
     pub(crate) gone: bool,
     pub(crate) group: PublicGroup,
@@ -37,6 +36,22 @@ pub struct Member<S: Suite> {
     pub(crate) pending: Option<Pending>,
     pub(crate) alloc: Global,
     pub(crate) suite: PhantomData<S>,
+}
+
+impl<S: Suite> Drop for Member<S> {
+    fn drop(self) {
+        let Member {
+            gone: _,
+            group: _,
+            epoch: _,
+            keys: _,
+            signing: _,
+            kept: _,
+            pending: _,
+            alloc: _,
+            suite: _,
+        } = self;
+    }
 }
 
 impl<S: Suite> Model for Member<S> {

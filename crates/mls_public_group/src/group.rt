@@ -19,13 +19,23 @@ use std::marker::Model;
 
 /// The public state of a group in an epoch: its GroupContext (RFC 9420, 8.1), its ratchet tree (7.1) and its interim
 /// transcript hash (8.2).
-#[derive(Drop)]
 pub struct PublicGroup {
     pub(crate) context: GroupContext,
     // The spelling of the context, which signatures, tags and secrets are made over.
     bytes: Vec<u8>,
     pub(crate) tree: SharedTree,
     transcript: Transcript,
+}
+
+impl Drop for PublicGroup {
+    fn drop(self) {
+        let PublicGroup {
+            context: _,
+            bytes: _,
+            tree: _,
+            transcript: _,
+        } = self;
+    }
 }
 
 impl Model for PublicGroup {

@@ -13,11 +13,16 @@ use std::rc::Rc;
 
 /// A ratchet tree behind a pointer, which keeps all of its hashes (RFC 9420, 7.1 and 7.8). A copy is the same tree and
 /// takes no memory of its own.
-#[derive(Drop)]
 pub struct SharedTree {
     tree: Rc<PublicTree>,
     // Its tree hash.
     hash: Hash,
+}
+
+impl Drop for SharedTree {
+    fn drop(self) {
+        let SharedTree { tree: _, hash: _ } = self;
+    }
 }
 
 impl Model for SharedTree {

@@ -13,7 +13,6 @@ use std::marker::Model;
 
 /// The secrets of one epoch: the epoch secret, and the nine that are made of it. The external secret and that for
 /// resumption, which no call of a member needs, are made where they are asked for.
-#[derive(Drop)]
 pub struct Epoch {
     epoch: Secret,
     sender_data: Secret,
@@ -23,6 +22,21 @@ pub struct Epoch {
     membership: Secret,
     authenticator: Secret,
     init: Secret,
+}
+
+impl Drop for Epoch {
+    fn drop(self) {
+        let Epoch {
+            epoch: _,
+            sender_data: _,
+            encryption: _,
+            exporter: _,
+            confirmation: _,
+            membership: _,
+            authenticator: _,
+            init: _,
+        } = self;
+    }
 }
 
 // An epoch is seen as its epoch secret.

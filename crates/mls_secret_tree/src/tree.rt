@@ -14,10 +14,15 @@ use std::alloc::Global;
 use std::marker::Model;
 
 /// The secret tree of an epoch: what the keys for application data that weren't used yet are derived from.
-#[derive(Drop)]
 pub struct SecretTree {
     height: u32,
     root: SecretNode,
+}
+
+impl Drop for SecretTree {
+    fn drop(self) {
+        let SecretTree { height: _, root: _ } = self;
+    }
 }
 
 // It is seen as what it holds.

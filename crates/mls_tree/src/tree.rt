@@ -38,7 +38,6 @@ use std::marker::Model;
 /// The public tree of a group: at most `MAX_LEAVES` leaves, a power of two, each a member or blank, and the parents
 /// over them. Its methods use the allocator that it was made with. A copy shares the nodes, and the chunks that they
 /// stand in where the tree was shared before; an edit copies only those that it changes.
-#[derive(Drop)]
 pub struct PublicTree {
     pub(crate) cells: Cells,
     /// How many hashes of nodes were made.
@@ -49,6 +48,19 @@ pub struct PublicTree {
     pub(crate) full_to: u32,
     /// Each leaf from this one on is blank.
     pub(crate) blank_from: u32,
+}
+
+impl Drop for PublicTree {
+    fn drop(self) {
+        let PublicTree {
+            cells: _,
+            done: _,
+            indexes: _,
+            height: _,
+            full_to: _,
+            blank_from: _,
+        } = self;
+    }
 }
 
 impl Model for PublicTree {

@@ -15,11 +15,16 @@ use std::marker::Model;
 
 /// The cells of a tree in node order (RFC 9420, appendix C): a slot each, and the tree hash that is kept beside it; a cold
 /// cell has none. They stand in chunks that copies share; an edit copies those that it changes.
-#[derive(Drop)]
 pub struct Cells {
     parts: Parts,
     /// How many of the cells are seen. The others end in the same chunk.
     len: usize,
+}
+
+impl Drop for Cells {
+    fn drop(self) {
+        let Cells { parts: _, len: _ } = self;
+    }
 }
 
 impl Model for Cells {

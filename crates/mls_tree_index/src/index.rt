@@ -16,11 +16,20 @@ use std::marker::Model;
 /// The keys stay in the cells, and only their fronts are in entries. The entries stand in blocks that copies may share,
 /// so that a copy of a shared index copies pointers, and an edit the block that it changes. It keeps count of keys that
 /// repeat.
-#[derive(Drop)]
 pub struct Index {
     pub(crate) kind: KeyKind,
     pub(crate) blocks: Blocks,
     pub(crate) repeats: usize,
+}
+
+impl Drop for Index {
+    fn drop(self) {
+        let Index {
+            kind: _,
+            blocks: _,
+            repeats: _,
+        } = self;
+    }
 }
 
 impl Model for Index {

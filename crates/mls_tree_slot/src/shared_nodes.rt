@@ -11,9 +11,14 @@ use std::marker::Model;
 use std::rc::Rc;
 
 /// A leaf that a slot can take.
-#[derive(Drop)]
 pub struct SharedLeaf {
     leaf: Rc<LeafNode>,
+}
+
+impl Drop for SharedLeaf {
+    fn drop(self) {
+        let SharedLeaf { leaf: _ } = self;
+    }
 }
 
 impl Model for SharedLeaf {
@@ -25,9 +30,14 @@ impl Model for SharedLeaf {
 }
 
 /// A parent that a slot can take.
-#[derive(Drop)]
 pub struct SharedParent {
     parent: Rc<ParentNode>,
+}
+
+impl Drop for SharedParent {
+    fn drop(self) {
+        let SharedParent { parent: _ } = self;
+    }
 }
 
 impl Model for SharedParent {
@@ -54,8 +64,9 @@ impl SharedLeaf {
     pub fn into_slot(self) -> Slot
         ensures { result ≡ Some (in_leaf self) }
     {
+        let SharedLeaf { leaf } = self;
         Slot {
-            content: Content::Leaf(self.leaf),
+            content: Content::Leaf(leaf),
         }
     }
 }
@@ -83,8 +94,9 @@ impl SharedParent {
     pub fn into_slot(self) -> Slot
         ensures { result ≡ Some (in_parent self) }
     {
+        let SharedParent { parent } = self;
         Slot {
-            content: Content::Parent(self.parent),
+            content: Content::Parent(parent),
         }
     }
 }

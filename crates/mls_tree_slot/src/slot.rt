@@ -13,9 +13,15 @@ use std::marker::Model;
 
 /// A place of a ratchet tree: blank, or a node that copies of the tree may share. To its callers it is the node itself,
 /// where there is one. A copy shares the node and takes no memory of its own.
-#[derive(Debug, Drop)]
+#[derive(Debug)]
 pub struct Slot {
     pub(crate) content: Content,
+}
+
+impl Drop for Slot {
+    fn drop(self) {
+        let Slot { content: _ } = self;
+    }
 }
 
 impl Model for Slot {

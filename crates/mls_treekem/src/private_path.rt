@@ -9,12 +9,21 @@ use std::alloc::{AllocError, Global};
 use std::marker::Model;
 
 /// The private keys that a member has, of its leaf and of nodes over it.
-#[derive(Drop)]
 pub struct PrivatePath {
     pub(crate) leaf: u32,
     pub(crate) own: Secret,
     // By their height above the leaf, from the node right over it on; a node that is higher has none.
     pub(crate) above: Vec<Option<Secret>>,
+}
+
+impl Drop for PrivatePath {
+    fn drop(self) {
+        let PrivatePath {
+            leaf: _,
+            own: _,
+            above: _,
+        } = self;
+    }
 }
 
 // The keys above the leaf are seen in the order of the way to it.

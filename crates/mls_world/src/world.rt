@@ -18,11 +18,16 @@ use std::alloc::Global;
 use std::marker::Model;
 
 /// Is a world that came from the empty one by events.
-#[derive(Drop)]
 pub struct World<S: Suite> {
     pub(crate) world: PlainWorld<S>,
     // `reload` allocates with it, and proofs take it for the `Vec` of an event whose elements are those of a slice.
     pub(crate) alloc: Global,
+}
+
+impl<S: Suite> Drop for World<S> {
+    fn drop(self) {
+        let World { world: _, alloc: _ } = self;
+    }
 }
 
 impl<S: Suite> Model for World<S> {

@@ -14,7 +14,6 @@ use std::alloc::Global;
 use std::marker::Model;
 
 /// Candidates, members with their journals, and the messages that were made. Of where it came from it promises nothing.
-#[derive(Drop)]
 pub struct PlainWorld<S: Suite> {
     pub(crate) entrants: Vec<Entrant<S>>,
     pub(crate) seats: Vec<Seat<S>>,
@@ -22,6 +21,19 @@ pub struct PlainWorld<S: Suite> {
     pub(crate) made: Vec<Making>,
     pub(crate) journals: Journals,
     pub(crate) alloc: Global,
+}
+
+impl<S: Suite> Drop for PlainWorld<S> {
+    fn drop(self) {
+        let PlainWorld {
+            entrants: _,
+            seats: _,
+            messages: _,
+            made: _,
+            journals: _,
+            alloc: _,
+        } = self;
+    }
 }
 
 impl<S: Suite> Model for PlainWorld<S> {

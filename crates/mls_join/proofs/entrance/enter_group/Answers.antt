@@ -6,8 +6,8 @@ use Rattle.mls_join.proofs.entrance.enter_group.Goals as goal
 pub context_spelling-requires : goal.context_spelling-requires
 context_spelling-requires c = short_context _ (parts_below (2 ^ 27) c.args.opened.info c.requires.short).context
 
-pub from_joiner-epoch-requires : goal.from_joiner-epoch-requires
-from_joiner-epoch-requires c =
+pub from_joiner-requires : goal.from_joiner-requires
+from_joiner-requires c =
     let short = c.in_ok-bytes.ensures.short in
     omega (arith, short, ap length c.deref.ensures.value)
 
