@@ -10,7 +10,7 @@ use crate::error::LeafError;
 use mls_wire::{Reader, Writer};
 use std::alloc::{AllocError, Global};
 
-/// An extension, whose data this crate doesn't look into (RFC 9420, section 13.4).
+/// An extension, whose data this crate doesn't look into (RFC 9420, section 7.2).
 #[derive(Debug, PartialEq, Eq, Drop)]
 pub struct Extension {
     /// The number of its type (RFC 9420, section 17.3).

@@ -107,7 +107,7 @@ HasJoiner s secret change b =
 abbrev pub epoch_of : List ℕ → Change → List ℕ
 epoch_of joiner change = epoch_secret joiner (group_context.spell change.context)
 
--- the confirmation tag that a change has by its epoch secret (RFC 9420, 8.1)
+-- the confirmation tag that a change has by its epoch secret (RFC 9420, 6.1)
 abbrev pub tag_of : List ℕ → Change → List ℕ
 tag_of epoch change = confirmation_tag epoch change.context.confirmed_transcript_hash
 

@@ -201,7 +201,7 @@ impl<S: Suite> Member<S> {
         }
     }
 
-    /// The epoch that a commit secret leads to, and its confirmation tag (RFC 9420, 8 and 8.1).
+    /// The epoch that a commit secret leads to, and its confirmation tag (RFC 9420, 8 and 6.1).
     fn next_epoch(&self, received: &Outcome, secret: &Secret) -> Result<(Epoch, Secret), AllocError>
         ensures epoch { IfOk result (λ r. r.0 ≡ epoch_after self.now secret.now received.now) }
         ensures tag { IfOk result (λ r. r.1 ≡ tag_after r.0 received.now) }
@@ -213,7 +213,7 @@ impl<S: Suite> Member<S> {
         Ok((start.epoch, tag))
     }
 
-    /// Enters the next epoch: `BadConfirmationTag` (65) where the confirmation tag isn't that of it (RFC 9420, 8.1).
+    /// Enters the next epoch: `BadConfirmationTag` (65) where the confirmation tag isn't that of it (RFC 9420, 6.1).
     #[tactic(auto, unfolding(mls_model::specs::Verdict::enter_epoch_with, mls_model::specs::Member::with_epoch))]
     fn enter_epoch(
         &mut self,

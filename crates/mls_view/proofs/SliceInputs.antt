@@ -7,7 +7,6 @@ use Rattle.std.proofs.lemmas.List.{append-nil, length-append}
 use Rattle.mls_wire.specs.Reading.{uint, header, opaque}
 use Rattle.mls_types.specs.GroupContext.{group_context}
 use Rattle.mls_types.specs.declared.group_context.GroupContext.{GroupContext}
-use Rattle.mls_schedule.specs.Transcript.{confirmed_hash}
 use Rattle.mls_types.specs.Content.{framed_content}
 use Rattle.mls_types.specs.SignedParts.{framed_content_of, auth_data}
 use Rattle.mls_types.proofs.SignedParts.{signed_content_spelled}
@@ -35,10 +34,6 @@ pub authenticated_is : (view : PublicMessageView) (shown : messages.PublicMessag
 unfolding authenticated_content
 authenticated_is view shown shows =
     rw (shows.framed_content, shows.auth_data, format_is) (append_assoc (uint w16 1) (framed_content.spell (framed_content_of shown.content)) (auth_data shown.content) ∙ ap (λ (l : List ℕ). uint w16 1 ++ l) (sym (signed_content_spelled shown.content)))
-
-pub confirmed_is : (view : PublicMessageView) (shown : messages.PublicMessage) (interim : List ℕ) → ShowsPublic view shown
-    → confirmed_hash interim 1 view.framed_content.now view.auth.signature.now ≡ confirmed_hash interim 1 (framed_content.spell (framed_content_of shown.content)) shown.content.signature
-confirmed_is view shown interim shows = rw (shows.framed_content, shows.signature) refl
 
 pub signed_made : {E : Type 0} (view : PublicMessageView) (context : List ℕ) (r : Result (Vec ℕ) E) → MatchResult r (λ v. v.items ≡ signed_pieces view.framed_content.now context) (λ e. Unit {0})
     → MatchResult r (λ v. (shown : messages.PublicMessage) (group : GroupContext) → ShowsPublic view shown → context ≡ group_context.spell group → v.items ≡ framed_content_tbs PublicMessage (framed_content_of shown.content) group) (λ e. Unit {0})

@@ -3,7 +3,6 @@ use Rattle.std.specs.Prelude.{◌≡◌, ℕ, List, ◌++◌}
 use Rattle.std.specs.Int.{w16}
 use Rattle.mls_wire.specs.Reading.{uint}
 use Rattle.mls_kdf.specs.Kdf.{hmac}
-use Rattle.mls_schedule.specs.Transcript.{confirmed_hash}
 use Rattle.mls_types.specs.Content.{framed_content}
 use Rattle.mls_types.specs.GroupContext.{group_context}
 use Rattle.mls_types.specs.PublicMessage.{authenticated_content}
@@ -45,8 +44,3 @@ IsMembershipTag view key context tag =
 abbrev pub IsProposalReference : PublicMessageView → List ℕ → Type 0
 IsProposalReference view reference =
     (shown : messages.PublicMessage) → ShowsPublic view shown → reference ≡ proposal_reference (authenticated_content.spell (authenticated_content_of shown))
-
--- the confirmed transcript hash behind an interim one (RFC 9420, 8.2)
-abbrev pub IsConfirmedHash : PublicMessageView → List ℕ → List ℕ → Type 0
-IsConfirmedHash view interim hash =
-    (shown : messages.PublicMessage) → ShowsPublic view shown → hash ≡ confirmed_hash interim 1 (framed_content.spell (framed_content_of shown.content)) shown.content.signature

@@ -3,11 +3,10 @@
 ghost use Rattle.std.specs.Prelude.{◌≡◌, ◌+◌, ◌<◌, ◌≤◌, ◌^◌, length, IfOk};
 ghost use Rattle.mls_kdf.specs.Kdf.{hmac, ref_hash};
 ghost use Rattle.mls_types.specs.Signing.{signed_pieces};
-ghost use Rattle.mls_view.specs.SliceInputs.{tagged_pieces, authenticated_pieces, IsSignedInput, IsMembershipTag, IsProposalReference, IsConfirmedHash};
+ghost use Rattle.mls_view.specs.SliceInputs.{tagged_pieces, authenticated_pieces, IsSignedInput, IsMembershipTag, IsProposalReference};
 
 use crate::public_message::PublicMessageView;
 use mls_kdf::{Secret, content_header, hash, hmac};
-use mls_schedule::Transcript;
 use std::alloc::{AllocError, Global};
 
 /// Joins version 1, wire format 1 and the slices.
@@ -78,13 +77,5 @@ impl<'a> PublicMessageView<'a> {
             self.framed_content,
             self.auth_data,
         )
-    }
-
-    /// The confirmed transcript hash of a commit sent after this transcript (RFC 9420, 8.2). It takes no memory.
-    pub fn confirm(&self, transcript: &Transcript) -> Secret
-        requires { length self.now.auth.signature.now < 2 ^ 30 }
-        ensures { IsConfirmedHash self.now transcript.now result }
-    {
-        transcript.confirm(1, self.framed_content, self.auth.signature)
     }
 }

@@ -1,5 +1,5 @@
 -- The name of each refusal below 100, by its number: one table for all crates.
-use Rattle.std.specs.Prelude.{◌≡◌, ℕ, ◌==◌, if◌then◌else◌, List, [], ◌∷◌, ◌++◌, codes}
+use Rattle.std.specs.Prelude.{ℕ, ◌==◌, if◌then◌else◌, List, [], ◌∷◌, ◌++◌, codes}
 
 -- the name of a number in a table; no bytes where it isn't there
 abbrev pub name_in : List (ℕ × List ℕ) → ℕ → List ℕ
