@@ -6,3 +6,4 @@ pub mod RatchetLaws
 pub mod HeldLaws
 pub mod TreeLaws
 pub mod Generations
+pub mod SavedNodes

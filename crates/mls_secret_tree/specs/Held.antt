@@ -62,6 +62,12 @@ next_below (Parted left right) [] = 0
 next_below (Parted left right) (false ∷ way) = next_below left way
 next_below (Parted left right) (true ∷ way) = next_below right way
 
+-- whether the secret of the node itself is held still
+unfoldable pub is_whole : Held → Bool
+is_whole (Whole secret) = true
+is_whole (LeafRatchet r) = false
+is_whole (Parted left right) = false
+
 -- how many steps down anything is held
 unfoldable pub depth : Held → ℕ
 depth (Whole secret) = 0

@@ -9,4 +9,6 @@ pub mod Laws
 pub mod Generations
 pub mod Codes
 pub mod TreeCodes
+pub mod Saved
+pub mod SavedFaults
 pub mod Faults

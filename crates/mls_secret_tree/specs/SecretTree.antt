@@ -1,9 +1,9 @@
 -- A secret tree, and what it is after a key was taken (RFC 9420, 9 and 9.2).
-use Rattle.std.specs.Prelude.{◌≡◌, ℕ, ◌^◌, nat_lt, if◌then◌else◌, List, Option, Some, None, Result, Ok, Err}
+use Rattle.std.specs.Prelude.{◌≡◌, ℕ, ◌^◌, nat_lt, Bool, if◌then◌else◌, List, Option, Some, None, Result, Ok, Err}
 use Rattle.mls_wire.specs.Reading.{◌>>=◌}
 use Rattle.mls_treemath.specs.Paths.{leaf_path}
 use Rattle.mls_secret_tree.specs.declared.secrets.MessageKey.{MessageKey}
-use Rattle.mls_secret_tree.specs.Held.{Held, Whole, take_below, put_below, next_below}
+use Rattle.mls_secret_tree.specs.Held.{Held, Whole, take_below, put_below, next_below, is_whole}
 
 -- a tree of 2 ^ height leaves, and what is held below its root
 pub record Tree : Type 0 where
@@ -19,6 +19,10 @@ pub record Drafted : Type 0 where
 -- the tree at first holds the encryption secret alone (RFC 9420, 9)
 unfoldable pub first_tree : List ℕ → ℕ → Tree
 first_tree encryption_secret height = record { height = height; root = Whole encryption_secret }
+
+-- whether no key was used yet
+unfoldable pub is_fresh : Tree → Bool
+is_fresh t = is_whole t.root
 
 -- the key of a leaf in a generation: `SenderWithoutLeaf` (114) outside the tree, `GenerationTooFar` (115) beyond the
 -- window, `KeyUsed` (116) where it was used or is gone

@@ -11,6 +11,7 @@ mod laws;
 mod node;
 mod ratchet;
 mod secrets;
+mod sized;
 mod tree;
 
 pub use error::SecretTreeError;

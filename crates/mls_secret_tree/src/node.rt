@@ -4,7 +4,9 @@ ghost use Rattle.std.specs.Prelude.{◌≡◌, ◌<◌, ◌≤◌, ◌==◌, IfO
 ghost use Rattle.std.specs.Int.{bit_at};
 ghost use Rattle.mls_treemath.specs.Paths.{leaf_path};
 ghost use Rattle.mls_secret_tree.specs.Faults.{Gives, RefusesOutright};
-ghost use Rattle.mls_secret_tree.specs.Held.{Whole, beside, take_from_ratchet, take_whole, take_below, put_below, next_below};
+ghost use Rattle.mls_secret_tree.specs.Held.{Whole, beside, take_from_ratchet, take_whole, take_below, put_below, next_below, is_whole};
+
+mod saved;
 
 use crate::SecretTreeError;
 use crate::ratchet::Ratchet;
@@ -131,6 +133,18 @@ impl SecretNode {
     {
         SecretNode {
             kind: Kind::Secret(*secret),
+        }
+    }
+
+    /// Whether the node's secret is held still.
+    #[tactic(auto, unfolding(crate::specs::Held::is_whole))]
+    pub fn is_whole(&self) -> bool
+        ensures { result ≡ is_whole self.now }
+    {
+        match &self.kind {
+            Kind::Secret(_) => true,
+            Kind::Ratchet(_) => false,
+            Kind::Parted(_, _) => false,
         }
     }
 

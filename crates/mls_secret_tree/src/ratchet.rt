@@ -5,9 +5,12 @@ ghost use Rattle.std.specs.Prelude.{◌≡◌, ◌+◌, ◌-◌, ◌<◌, ◌≤
 ghost use Rattle.mls_secret_tree.specs.Faults.{Gives, RefusesOutright};
 ghost use Rattle.mls_secret_tree.specs.Ratchet.{window, first_ratchet, find_key, other_keys, near_keys, passed_secret, AddsKeys, take_new, take_ahead, take_key};
 
+mod saved;
+
 use crate::SecretTreeError;
 use crate::secrets::{MessageKey, application_secret, message_key, next_ratchet_secret};
 use mls_kdf::{HmacKey, Secret};
+use mls_leaf::Items;
 use std::alloc::{AllocError, Global};
 use std::marker::Model;
 
@@ -26,7 +29,7 @@ pub(crate) struct KeptKey {
 pub(crate) struct Ratchet {
     next: u64,
     secret: Secret,
-    kept: Vec<KeptKey>,
+    kept: Items<KeptKey>,
 }
 
 // It is seen as what it holds.
@@ -36,7 +39,7 @@ impl Model for Ratchet {
 
     ghost Value = { Ratcheting };
 
-    ghost view = { λ r. record { next = r.next; secret = r.secret; kept = r.kept.items } };
+    ghost view = { λ r. record { next = r.next; secret = r.secret; kept = r.kept } };
 
     ghost invariant = { λ r. r.next ≤ 2 ^ 32 };
 }
@@ -106,6 +109,7 @@ fn take_new(secret: &Secret, generation: u32, kept: Vec<KeptKey>) -> (MessageKey
     let key = message_key(&ratchet, generation);
     let secret = next_ratchet_secret(&ratchet, generation);
     let next = u64::from(generation) + 1;
+    let kept = Items::from_vec(kept);
     (key, Ratchet { next, secret, kept })
 }
 
@@ -118,7 +122,7 @@ impl Ratchet {
         Ratchet {
             next: 0,
             secret: application_secret(secret),
-            kept: Vec::new(alloc),
+            kept: Items::from_vec(Vec::new(alloc)),
         }
     }
 
@@ -140,7 +144,7 @@ impl Ratchet {
         requires { self.now.next ≤ generation }
         ensures { IfOk result (λ t. t ≡ take_ahead self.now generation) }
     {
-        let mut kept = near_keys(alloc, &self.kept, generation)?;
+        let mut kept = near_keys(alloc, self.kept.as_slice(), generation)?;
         let secret = pass_over(&mut kept, &self.secret, self.next as u32, generation)?;
         Ok(take_new(&secret, generation, kept))
     }
@@ -158,10 +162,10 @@ impl Ratchet {
         ensures refused { RefusesOutright (take_key self.now generation) result }
     {
         if u64::from(generation) < self.next {
-            let Some(key) = find_key(&self.kept, generation) else {
+            let Some(key) = find_key(self.kept.as_slice(), generation) else {
                 return Err(SecretTreeError::KeyUsed);
             };
-            let kept = other_keys(alloc, &self.kept, generation)?;
+            let kept = Items::from_vec(other_keys(alloc, self.kept.as_slice(), generation)?);
             return Ok((
                 key,
                 Ratchet {

@@ -3,7 +3,9 @@
 ghost use Rattle.std.specs.Prelude.{◌≡◌};
 ghost use Rattle.mls_treemath.specs.Steps.{height_of};
 ghost use Rattle.mls_secret_tree.specs.Faults.{Gives, RefusesOutright};
-ghost use Rattle.mls_secret_tree.specs.SecretTree.{IsFirstTree, draft_key, keep_draft, next_generation};
+ghost use Rattle.mls_secret_tree.specs.SecretTree.{IsFirstTree, is_fresh, draft_key, keep_draft, next_generation};
+
+mod saved;
 
 use crate::SecretTreeError;
 use crate::node::SecretNode;
@@ -92,6 +94,21 @@ impl SecretTree {
         } else {
             None
         }
+    }
+
+    /// The height of the tree, which has 2^height leaves.
+    pub fn height(&self) -> u32
+        ensures { result ≡ self.now.height }
+    {
+        self.height
+    }
+
+    /// Whether no key was used yet.
+    #[tactic(auto, unfolding(crate::specs::SecretTree::is_fresh))]
+    pub fn is_fresh(&self) -> bool
+        ensures { result ≡ is_fresh self.now }
+    {
+        self.root.is_whole()
     }
 
     /// The first generation of a leaf of which no key was made yet, as a sender takes it for its next message: None
