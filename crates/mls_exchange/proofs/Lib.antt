@@ -8,3 +8,4 @@ pub mod Generations
 pub mod Refused
 pub mod Steps
 pub mod Places
+pub mod Saving

@@ -18,6 +18,7 @@ use Rattle.mls_exchange.specs.declared.seal.Plain.{Plain}
 use Rattle.mls_exchange.specs.State.{State, after_draft}
 use Rattle.mls_exchange.specs.Sealing.{own_signature, own_content, message_under, seal_message, sealing_checks}
 use Rattle.mls_exchange.specs.Opening.{place_at, arrival_checks, signature_check, data_of, open_here, open_message}
+use Rattle.mls_exchange.specs.Saved.{restore}
 use Rattle.mls_exchange.specs.Faults.{number_of}
 
 -- A call answers what the definition does, or refuses with its number. Where memory was refused it says nothing.
@@ -100,6 +101,10 @@ OpensHere c s m result = Answers (λ x. (x.0, after_draft s x.1)) number_of (ope
 -- opening: the message's bytes
 abbrev pub Opens : Crypto → List ℕ → State → State → Result Opened ExchangeError → Type 0
 Opens c bytes old new result = DoesAs (λ o. o) number_of (open_message c old bytes) old new result
+
+-- going on with saved keys: the bytes that hold them
+abbrev pub Restores : List ℕ → State → State → Result (Unit {0}) ExchangeError → Type 0
+Restores bytes old new result = DoesAs (λ _. passed) number_of (restore old bytes) old new result
 
 abbrev pub RefusesArrival : State → List ℕ → Result Opened ExchangeError → Type 0
 RefusesArrival s bytes result = RefusesOutright (arrival_checks s bytes) result

@@ -4,6 +4,7 @@ pub mod Contents
 pub mod Said
 pub mod Sealing
 pub mod Opening
+pub mod Saved
 pub mod MessagePlace
 pub mod Faults
 pub mod Calls

@@ -10,6 +10,7 @@ mod laws;
 mod open;
 mod place;
 mod said;
+mod save;
 mod seal;
 
 pub use error::ExchangeError;

@@ -47,7 +47,7 @@ fn place_in(bytes: &[u8]) -> Result<(&[u8], u64), LeafError>
 impl<S: Suite> Exchange<S> {
     /// `OtherGroup` (111) another group, `OtherEpoch` (112) another epoch (RFC 9420, 6). Takes no memory.
     #[tactic(auto, unfolding(crate::specs::Opening::checks_of_place))]
-    fn check_place(&self, group_id: &[u8], epoch: u64) -> Result<(), ExchangeError>
+    pub(crate) fn check_place(&self, group_id: &[u8], epoch: u64) -> Result<(), ExchangeError>
         ensures { PassesOutright (checks_of_place self.now group_id.now epoch) result }
     {
         if group_id != self.parts.group_id.as_slice() {

@@ -1,8 +1,7 @@
 -- Which numbers the readings of a saved secret tree answer.
-use Rattle.std.specs.Prelude.{ℕ, zero, suc, ◌^◌, nat_le, Bool, true, false, cond, List, ◌==◌, Err, length, refl}
+use Rattle.std.specs.Prelude.{ℕ, zero, suc, ◌^◌, nat_le, Bool, true, false, List, ◌==◌, length, refl}
 use Rattle.std.specs.Int.{w8}
-use Rattle.mls_wire.specs.Combine.{◌⨾◌, byte_string, uint64, vector}
-use Rattle.mls_wire.specs.CombineReads.{seen_read, body_read}
+use Rattle.mls_wire.specs.CombineReads.{body_read}
 use Rattle.mls_wire.specs.Reading.{uint_at}
 use Rattle.mls_wire.specs.Format.{Format}
 use Rattle.mls_wire.specs.ReadFaults.{HasFaults, Answered, answered_then, pair_faults, seen_answered, guarded_faults, vector_faults, byte_string_faults, uint_answered, uint32_faults, uint64_faults}
