@@ -3,3 +3,4 @@ pub mod Nodes
 pub mod Sharing
 pub mod Order
 pub mod Conversing
+pub mod Restoring

@@ -1,5 +1,6 @@
 -- The laws of conversations: good members that share an epoch have ones that arrive at each other (RFC 9420, 6.3).
 use Rattle.std.specs.Prelude.{◌≡◌, ℕ, ◌<◌, ◌≤◌, ◌^◌, List, Some, Ok}
+use Rattle.mls_wire.specs.Checks.{passed}
 use Rattle.mls_leaf.specs.declared.leaf.LeafNode.{LeafNode}
 use Rattle.mls_suite.specs.Crypto.{Crypto}
 use Rattle.mls_schedule.specs.Epoch.{encryption_secret}
@@ -9,6 +10,7 @@ use Rattle.mls_secret_tree.specs.SecretTree.{next_generation}
 use Rattle.mls_model.specs.Member.{Member}
 use Rattle.mls_model.specs.Sharing.{ShareEpoch}
 use Rattle.mls_exchange.specs.State.{State}
+use Rattle.mls_exchange.specs.Saved.{restore, RestoresAsWas}
 use Rattle.mls_exchange.specs.Sealing.{seal_message}
 use Rattle.mls_exchange.specs.Laws.{OfOneEpoch, IsOwnLeaf, IsInRange, CanOpen, Arrives, Call, after_calls}
 use Rattle.mls_conversation.specs.Conversation.{conversation_of}
@@ -53,3 +55,9 @@ ArrivesAtMembers c =
     → seal_message c s application_data authenticated_data padding seed ≡ Ok (bytes, after)
     → next_generation s.keys s.leaf ≡ Some generation → CanOpen r s.leaf generation
     → Arrives c s r shared.first.leaf generation application_data authenticated_data bytes
+
+-- by the bytes that a conversation is saved as, whatever it sealed and opened before, the conversation at first of its
+-- member goes on as it was
+abbrev pub SavedGoOn : Crypto → Type 0
+SavedGoOn c = (m : Member) (first s : State) (bytes : List ℕ) → conversation_of m ≡ Ok first
+    → IsLaterThan c first s → RestoresAsWas s bytes → restore first bytes ≡ Ok (passed, s)

@@ -1,15 +1,16 @@
 //! A conversation.
 
-ghost use Rattle.std.specs.Prelude.{◌≡◌};
+ghost use Rattle.std.specs.Prelude.{◌≡◌, IfOk};
 ghost use Rattle.std.specs.Option.{option_copied};
 ghost use Rattle.mls_exchange.specs.State.{member_at};
-ghost use Rattle.mls_exchange.specs.Calls.{Seals, RefusesSealing, Opens, RefusesArrival};
+ghost use Rattle.mls_exchange.specs.Calls.{Seals, RefusesSealing, Opens, RefusesArrival, RefusesOutright, Restores};
+ghost use Rattle.mls_exchange.specs.Saved.{saved_of, Saves, saved_at, RestoresAsWas};
 ghost use Rattle.mls_conversation.specs.Conversation.{MakesConversation, RefusesConversation, TakesParts};
 
 use crate::ConversationError;
 use mls_exchange::{Exchange, ExchangeError, Opened, Parts};
 use mls_kdf::Seed;
-use mls_leaf::LeafNode;
+use mls_leaf::{LeafError, LeafNode};
 use mls_member::Member;
 use mls_secret_tree::SecretTree;
 use mls_suite::Suite;
@@ -67,8 +68,9 @@ fn parts_of<S: Suite>(
 impl<S: Suite> Conversation<S> {
     /// The conversation of a member in its epoch, in which no key was used yet. `Gone` (40) where the member was removed;
     /// `TreeShape` (20) where its tree has no height, which no good member's answers. Whoever makes two conversations of
-    /// one member in one epoch must not seal with both: they begin with the same keys. So a member that was loaded, and may
-    /// have sealed in its epoch before, is to commit first; one that was saved opens what the whole epoch sealed.
+    /// one member in one epoch must not seal with both: they begin with the same keys. So of a member
+    /// that was loaded, and may have sealed in its epoch before, it has to go on by `restore`, or the member commits first;
+    /// as it is, it opens what the whole epoch sealed.
     pub fn of(alloc: Global, member: &Member<S>) -> Result<Conversation<S>, ConversationError>
         ensures answer { MakesConversation member.now result }
         // Both numbers come also when an allocation fails.
@@ -143,5 +145,27 @@ impl<S: Suite> Conversation<S> {
         ensures outright { RefusesArrival self.old bytes.now result }
     {
         self.exchange.open(bytes)
+    }
+
+    /// The conversation as bytes, with which another of the same member and epoch goes on by `restore`: the group, the
+    /// epoch, the leaf and the secrets that keys not used yet are derived from. `TooLong` (6) where there are more bytes than an input
+    /// has. What `seal` made is to be stored with them and sent only then: a key of an older save would be used twice.
+    pub fn save(&self) -> Result<Vec<u8>, LeafError>
+        ensures saved { Saves (saved_of self.now) result }
+        // By them the conversation goes on as it was.
+        ensures restores { IfOk result (λ bytes. RestoresAsWas self.now bytes.items) }
+    {
+        self.exchange.save()
+    }
+
+    /// Goes on as a conversation of the same member and epoch, which `save` made these bytes of. `KeyUsed` (116) where this
+    /// one used a key already; the first fault of bytes that no conversation was saved as; `OtherGroup` (111), `OtherEpoch`
+    /// (112), `BadTag` (7) of another leaf or of a tree of another height. A refusal changes nothing.
+    pub fn restore(&mut self, bytes: &[u8]) -> Result<(), ExchangeError>
+        ensures answer { Restores bytes.now self.old self.new result }
+        // 116 and faults of the bytes come also when an allocation fails.
+        ensures outright { RefusesOutright (saved_at self.old bytes.now) result }
+    {
+        self.exchange.restore(bytes)
     }
 }

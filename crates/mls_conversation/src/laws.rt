@@ -1,6 +1,6 @@
 //! Laws of conversations. Each function does nothing, and its contract is the law.
 
-ghost use Rattle.mls_conversation.specs.Laws.{MembersShare, FreshCanOpen, ArrivesAtMembers};
+ghost use Rattle.mls_conversation.specs.Laws.{MembersShare, FreshCanOpen, ArrivesAtMembers, SavedGoOn};
 ghost use Rattle.mls_conversation.specs.Order.{ArriveOnceAtMembers};
 ghost use Rattle.mls_conversation.specs.Together.{TogetherShare, TogetherConverse};
 
@@ -14,6 +14,12 @@ pub fn conversations_share<S: Suite>()
 /// A law: a conversation at first can open each generation of each leaf up to the window.
 pub fn fresh_keys()
     ensures { FreshCanOpen }
+{}
+
+/// A law: by the bytes that a conversation is saved as, whatever it sealed and opened before, the conversation at first of
+/// its member goes on as it was.
+pub fn saved_conversations_go_on<S: Suite>()
+    ensures { SavedGoOn S.crypto }
 {}
 
 /// A law: for every lawful suite, what a member seals opens at each member that shares its epoch, whatever both sealed and

@@ -12,6 +12,6 @@ pub use conversation::Conversation;
 pub use error::ConversationError;
 pub use laws::{
     arrives_once_at_members, conversations_share, fresh_keys, members_share_epochs,
-    messages_arrive, sealed_arrives_at_members,
+    messages_arrive, saved_conversations_go_on, sealed_arrives_at_members,
 };
 pub use mls_exchange::{ExchangeError, MessageKind, MessagePlace, Opened, message_place};
