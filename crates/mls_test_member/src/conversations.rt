@@ -6,6 +6,7 @@ mod epochs;
 mod orders;
 mod private_messages;
 mod rows;
+mod saves;
 mod secret_trees;
 mod speakers;
 mod trio;
