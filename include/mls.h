@@ -158,8 +158,9 @@ uint32_t mls_member_pending_commit(mls_member *member, mls_bytes **commit);
 uint32_t mls_member_drop_pending(mls_member *member, uint64_t *had);
 
 /* Makes the conversation of a member in its epoch, with which it seals and opens application messages. Of one member
- * only one conversation an epoch may seal: two begin with the same keys. So a member that was loaded, and may have sealed
- * in its epoch before, is to commit first; and one that keeps proposals is to (RFC 9420, 12.4). */
+ * only one conversation an epoch may seal: two begin with the same keys. So the conversation of a member that was loaded,
+ * and may have sealed in its epoch before, is to go on by mls_conversation_restore, or the member is to commit first. A
+ * member that keeps proposals is to commit before it seals (RFC 9420, 12.4). */
 uint32_t mls_conversation_new(mls_member *member, mls_conversation **conversation);
 
 /* Seals application data, with authenticated data that isn't encrypted and so many bytes of padding. */
@@ -177,6 +178,17 @@ uint32_t mls_conversation_member_at(mls_conversation *conversation, uint64_t lea
  * tells of. */
 uint32_t mls_conversation_open(mls_conversation *conversation, const uint8_t *message, size_t message_length,
                                mls_bytes **application_data, mls_bytes **authenticated_data, uint64_t *sender);
+
+/* Saves a conversation as bytes, which hold its secrets. What was sealed is to be stored with the save that follows it, and
+ * sent only then: by bytes of an older save keys would be used twice. 6 where there are more bytes than an input has
+ * (67,108,864), or 1. */
+uint32_t mls_conversation_save(mls_conversation *conversation, mls_bytes **saved);
+
+/* Has a conversation go on as the one of its member and epoch that was saved so: after mls_member_load it is made by
+ * mls_conversation_new, and restored with the bytes of the last save. 116 where it used a key already; the first fault of
+ * bytes that no conversation was saved as (2 to 7); 111 another group, 112 another epoch, 7 also another leaf or a tree of
+ * another height; or 1. */
+uint32_t mls_conversation_restore(mls_conversation *conversation, const uint8_t *saved, size_t saved_length);
 
 #ifdef __cplusplus
 }

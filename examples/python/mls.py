@@ -209,8 +209,8 @@ class Member(Held):
         return library.bytes("member_export", self.handle, label.encode(), context, ctypes.c_uint64(length))
 
     def conversation(self):
-        """What it seals and opens application messages of its epoch with. Only one an epoch may seal, so it is kept; a
-        member that was loaded, and may have sealed in its epoch before, commits first."""
+        """What it seals and opens application messages of its epoch with. Only one an epoch may seal, so it is kept; that
+        of a member that was loaded, and may have sealed in its epoch before, is restored, or the member commits first."""
         return Conversation(library.handle("conversation_new", self.handle))
 
     def process(self, message):
@@ -285,6 +285,15 @@ class Conversation(Held):
     def member_at(self, leaf):
         """The identity and the signature key of the member at a leaf, in this epoch."""
         return library.two("conversation_member_at", self.handle, ctypes.c_uint64(leaf))
+
+    def save(self):
+        """The bytes that it is saved as, which hold its secrets. What it sealed is stored with them, and sent only then: by
+        bytes of an older save keys would be used twice."""
+        return library.bytes("conversation_save", self.handle)
+
+    def restore(self, saved):
+        """Goes on as the conversation of its member and epoch that was saved so. It has used no key itself."""
+        library.call("conversation_restore", self.handle, saved)
 
 
 def say(speaker, hearer, words, seed):

@@ -90,6 +90,49 @@ def try_extensions(alice, bob):
     hold("the extensions of a group", alice.extensions == bob.extensions == listed)
 
 
+def try_no_saves(loaded, saved, member):
+    """Bytes that no conversation was saved as: one that is to go on with them stays as it is."""
+    cut = {refusal_of(loaded.restore, saved[:length]) for length in range(len(saved))}
+    hold("truncated bytes of a conversation", cut <= set(range(2, 8)))
+    hold("more bytes than a conversation's", refusal_of(loaded.restore, saved + b"\0") == 3)
+    hold("the bytes of a member", refusal_of(loaded.restore, member) == 7)
+
+
+def try_other_conversations(alice, bob, saved):
+    """Conversations that don't go on with what one was saved as: of another group, member or epoch, or with a used key."""
+    other = mls.Member.create(mls.Candidate.new(b"carol", seed(11)), b"other", seed(12))
+    hold("a conversation of another group", refusal_of(other.conversation().restore, saved) == 111)
+    hold("a conversation of another member", refusal_of(bob.conversation().restore, saved) == 7)
+    hers = alice.conversation()
+    hers.restore(saved)
+    hold("a conversation that used a key", refusal_of(hers.restore, saved) == 116)
+    commit, _ = alice.commit_kept(seed(16))
+    alice.process(commit)
+    hold("a conversation of another epoch", refusal_of(alice.conversation().restore, saved) == 112)
+
+
+def try_restored(alice, bob):
+    """A conversation that is saved in its epoch goes on in it, once its member is loaded."""
+    hers, his = alice.conversation(), bob.conversation()
+    first = hers.seal(b"first", seed(13))
+    saved, member = hers.save(), alice.save()
+    alice = mls.Member.load(member)
+    loaded = alice.conversation()
+    try_no_saves(loaded, saved, member)
+    loaded.restore(saved)
+    hold("a restored conversation", loaded.save() == saved)
+    second = loaded.seal(b"second", seed(14))
+    heard = [his.open(it)[0] for it in (second, first)]
+    hold("what was sealed before and after", heard == [b"second", b"first"])
+    hold("a message that comes twice", refusal_of(his.open, first) == 116)
+    again = mls.Member.load(bob.save()).conversation()
+    again.restore(his.save())
+    hold("a message that comes after a load too", refusal_of(again.open, second) == 116)
+    repeated = alice.conversation().seal(b"first", seed(15))
+    hold("a key of a conversation that wasn't restored", refusal_of(again.open, repeated) == 116)
+    try_other_conversations(alice, bob, saved)
+
+
 def try_senders(alice, bob):
     """Who sent a message of an epoch that the group has left."""
     hers, his = alice.conversation(), bob.conversation()
@@ -121,6 +164,7 @@ def main():
     try_extensions(alice, bob)
     try_words(alice)
     try_senders(alice, bob)
+    try_restored(*pair())
 
 
 if __name__ == "__main__":

@@ -4,10 +4,11 @@
  *
  * It makes COUNT calls, frees what is left, and prints how many calls were good, how many were refused, and of these how
  * many for want of memory. Messages that calls made are passed on, some with a bit turned; now and then a candidate is
- * added and joins, a message goes to all members, and what is sealed to all conversations. Where CHANCE isn't 0, each
- * allocation of the library fails with a chance of 1 in CHANCE. The program ends with status 1 where a call answers 0 and
- * makes no handle that is due, or makes one where it is refused; where a handle is null or of another kind, and the answer
- * isn't 130 or 131, or 1; or where a member that refused a call isn't saved as before.
+ * added and joins, a message goes to all members, what is sealed to all conversations, and a conversation goes on as one
+ * that was saved. Where CHANCE isn't 0, each allocation of the library fails with a chance of 1 in CHANCE. The program
+ * ends with status 1 where a call answers 0 and makes no handle that is due, or makes one where it is refused; where a
+ * handle is null or of another kind, and the answer isn't 130 or 131, or 1; where a member or a conversation that refused
+ * a call isn't saved as before; or where one that goes on isn't saved as the other.
  *
  * It is linked with -Wl,--wrap=malloc,--wrap=realloc, by which allocations fail.
  */
@@ -274,16 +275,21 @@ static uint32_t change_member(struct slot on, struct made *made) {
 
 static uint32_t call_conversation(struct slot on, struct made *made) {
     struct text a = any_text(), b = any_text(), s = seed();
-    uint64_t sender = 0;
-    if (next(4) == 0) {
+    uint64_t sender = 0, padding = number(100);
+    switch (next(8)) {
+    case 0:
         return mls_conversation_member_at(on.handle, number(4), &made->bytes, next(2) == 0 ? NULL : &made->other);
-    }
-    if (next(2) == 0) {
-        uint64_t padding = number(100);
+    case 1:
+        return mls_conversation_save(on.handle, &made->bytes);
+    case 2:
+        return mls_conversation_restore(on.handle, a.bytes, a.length);
+    case 3:
+    case 4:
         return mls_conversation_seal(on.handle, a.bytes, a.length, b.bytes, b.length, padding, s.bytes, s.length,
                                      &made->bytes);
+    default:
+        return mls_conversation_open(on.handle, a.bytes, a.length, &made->bytes, &made->other, &sender);
     }
-    return mls_conversation_open(on.handle, a.bytes, a.length, &made->bytes, &made->other, &sender);
 }
 
 static uint32_t call_other(struct slot on, struct made *made) {
@@ -306,12 +312,17 @@ static uint32_t call_other(struct slot on, struct made *made) {
 
 /* ---- what must hold */
 
-/* What a member is saved as, or nothing of another handle. */
+/* What a member or a conversation is saved as, or nothing of another handle. */
 static struct text save(struct slot slot) {
     mls_bytes *made = NULL;
     bool was_refusing = is_refusing;
     is_refusing = false;
-    uint32_t answer = slot.kind == MEMBER ? mls_member_save(slot.handle, &made) : 0;
+    uint32_t answer = 0;
+    if (slot.kind == MEMBER) {
+        answer = mls_member_save(slot.handle, &made);
+    } else if (slot.kind == CONVERSATION) {
+        answer = mls_conversation_save(slot.handle, &made);
+    }
     struct text text = made == NULL ? (struct text){NULL, 0} : take(made);
     is_refusing = was_refusing;
     if (answer != 0) {
@@ -352,7 +363,7 @@ static void call_on(struct slot on, enum kind wanted, uint32_t (*call)(struct sl
     if (compares) {
         struct text after = save(on);
         if (answer != 0 && !is_same(before, after)) {
-            fail("a member was changed", answer);
+            fail("a handle was changed", answer);
         }
         free(before.bytes);
         free(after.bytes);
@@ -453,8 +464,37 @@ static void talk(void) {
     }
 }
 
+/* A member's conversation seals, and a new one goes on as the one that is saved then. */
+static void resume(void) {
+    struct slot member = one(MEMBER), first = {NULL, CONVERSATION}, second = {NULL, CONVERSATION};
+    struct text data = any_text(), s = seed(), saved = {NULL, 0}, after = {NULL, 0};
+    mls_bytes *made = NULL;
+    is_refusing = true;
+    is_good(mls_conversation_new(member.handle, (mls_conversation **)&first.handle));
+    is_refusing = true;
+    is_good(mls_conversation_new(member.handle, (mls_conversation **)&second.handle));
+    if (first.handle != NULL && second.handle != NULL) {
+        is_refusing = true;
+        if (is_good(mls_conversation_seal(first.handle, data.bytes, data.length, NULL, 0, 0, s.bytes, s.length, &made))) {
+            put(made);
+        }
+        saved = save(first);
+        is_refusing = true;
+        uint32_t answer = mls_conversation_restore(second.handle, saved.bytes, saved.length);
+        bool is_restored = is_good(answer);
+        after = save(second);
+        if (is_restored ? !is_same(saved, after) : answer != 1) {
+            fail("a conversation doesn't go on", answer);
+        }
+    }
+    free(saved.bytes);
+    free(after.bytes);
+    mls_free(first.handle);
+    mls_free(second.handle);
+}
+
 static void call_any(void) {
-    switch (next(40) == 0 ? 12 + next(3) : next(12)) {
+    switch (next(40) == 0 ? 12 + next(4) : next(12)) {
     case 12:
         grow();
         return;
@@ -463,6 +503,9 @@ static void call_any(void) {
         return;
     case 14:
         talk();
+        return;
+    case 15:
+        resume();
         return;
     case 0:
     case 1:

@@ -22,6 +22,7 @@ use Rattle.mls_exchange.specs.State.{State, member_at as sender_at}
 use Rattle.mls_exchange.specs.MessagePlace.{MessagePlace, place_read}
 use Rattle.mls_exchange.specs.Sealing.{seal_message}
 use Rattle.mls_exchange.specs.Opening.{open_message}
+use Rattle.mls_exchange.specs.Saved.{saved_exchange, saved_of as saved_exchange_of, FitsInput as FitsExchangeInput, restore}
 use Rattle.mls_exchange.specs.declared.open.Opened.{Opened}
 use Rattle.mls_conversation.specs.Conversation.{conversation_of}
 use Rattle.mls_candidate.specs.Saved.{save_candidate, load_candidate}
@@ -522,3 +523,27 @@ make_sender_identity held leaf = a_conversation held
 
 unfoldable pub conversation_member_at : Shown → ℕ → Answer
 conversation_member_at held leaf = make_sender_identity held leaf >>= λ x. Ok (x, held)
+
+-- what is made of a conversation that is saved, in a handle: the bytes that its saved form spells, or `TooLong` (6) where
+-- that has no spelling of an input's length; or `OutOfMemory`
+abbrev pub SavesConversation : State → Result Fruit ℕ → Type 0
+SavesConversation s (Ok f) =
+    FitsExchangeInput (saved_exchange_of s)
+    × (fruits f ≡ makes (bytes (saved_exchange.spell (saved_exchange_of s))))
+SavesConversation s (Err n) = n ≢ 1 → (n ≡ 6) × (FitsExchangeInput (saved_exchange_of s) → ⊥)
+
+abbrev pub SavesIfConversation : Result State ℕ → Result Fruit ℕ → Type 0
+SavesIfConversation (Ok s) outcome = SavesConversation s outcome
+SavesIfConversation (Err n) outcome = Makes (Err n) outcome
+
+-- the conversation of a handle is saved, and the handle holds what it held
+abbrev pub SavesHeldConversation : Shown → Done → Type 0
+SavesHeldConversation old done =
+    SavesIfConversation (a_conversation old) done.outcome × (shown done.held ≡ old)
+
+-- it goes on with the keys that bytes hold, and nothing is made
+unfoldable pub restore_keys : Text → State → Result (Fruits × State) ℕ
+restore_keys given s = given >>= λ xs. restore s xs >>= λ x. Ok (tells 0, x.1)
+
+unfoldable pub conversation_restore : Shown → Text → Answer
+conversation_restore held given = on_conversation held (restore_keys given)

@@ -35,6 +35,10 @@ begins_at p n q m made = record (loads_at p n made) { second = q; second_length 
 abbrev pub takes_at : Ptr → Ptr → ℕ → Ptr → Passed
 takes_at h p n made = record (loads_at p n made) { handle = h }
 
+-- a handle and a text, and it makes nothing
+abbrev pub restores_at : Ptr → Ptr → ℕ → Passed
+restores_at h p n = record nowhere { handle = h; first = p; first_length = n }
+
 -- a text, of which it makes two handles
 abbrev pub reads_at : Ptr → ℕ → Ptr → Ptr → Passed
 reads_at p n made other = record (loads_at p n made) { other = other }

@@ -75,4 +75,8 @@ pub enum Call {
     MemberPendingCommit,
     /// The group and the epoch that a message says it is of.
     MessagePlace,
+    /// The bytes that a conversation is saved as.
+    ConversationSave,
+    /// A conversation goes on as the one that was saved so.
+    ConversationRestore,
 }

@@ -2,8 +2,8 @@
 
 ghost use types.Logic.{sem};
 ghost use Rattle.mls_c.specs.Memory.{Asked, asked_at, answered_at};
-ghost use Rattle.mls_c.specs.Passing.{finds_at, makes_at, opens_at, seals_at};
-ghost use Rattle.mls_c.specs.declared.call.Call.TheVariants.{ConversationNew, ConversationSeal, ConversationOpen, ConversationMemberAt};
+ghost use Rattle.mls_c.specs.Passing.{finds_at, makes_at, opens_at, restores_at, seals_at};
+ghost use Rattle.mls_c.specs.declared.call.Call.TheVariants.{ConversationNew, ConversationSeal, ConversationOpen, ConversationMemberAt, ConversationSave, ConversationRestore};
 
 use crate::held::Handle;
 use crate::run::run_call;
@@ -110,5 +110,41 @@ pub unsafe extern "C" fn mls_conversation_member_at(
         handle = conversation,
         made = identity,
         other = signature_key
+    )
+}
+
+/// The bytes that a conversation is saved as, which hold its secrets.
+#[unsafe(no_mangle)]
+pub unsafe extern "C" fn mls_conversation_save(
+    alloc: Global,
+    conversation: *mut Handle,
+    saved: *mut *mut Handle,
+) -> u32
+    ghost asked: { Asked }
+    requires* memory { sem 𝓛 (asked_at (makes_at conversation saved) asked) }
+    ensures* memory { sem 𝓛 (answered_at ConversationSave 0
+        (makes_at conversation saved) asked result) }
+{
+    run_call!(alloc, ConversationSave, handle = conversation, made = saved)
+}
+
+/// A conversation that used no key goes on as the one of its member and epoch that was saved so.
+#[unsafe(no_mangle)]
+pub unsafe extern "C" fn mls_conversation_restore(
+    alloc: Global,
+    conversation: *mut Handle,
+    saved: *const u8,
+    saved_length: usize,
+) -> u32
+    ghost asked: { Asked }
+    requires* memory { sem 𝓛 (asked_at (restores_at conversation saved saved_length) asked) }
+    ensures* memory { sem 𝓛 (answered_at ConversationRestore 0
+        (restores_at conversation saved saved_length) asked result) }
+{
+    run_call!(
+        alloc,
+        ConversationRestore,
+        handle = conversation,
+        first = (saved, saved_length)
     )
 }

@@ -66,5 +66,7 @@ pub(crate) fn do_call(
         Call::MemberForgetProposal => members::member_forget_proposal(held, &first),
         Call::MemberPendingCommit => seen::member_pending_commit(alloc, held),
         Call::MessagePlace => identities::message_place(alloc, held, &first),
+        Call::ConversationSave => saved::conversation_save(alloc, held),
+        Call::ConversationRestore => saved::conversation_restore(held, &first),
     }
 }

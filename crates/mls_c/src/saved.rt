@@ -1,7 +1,7 @@
-//! Calls that save and load.
+//! Calls that save, and that load or restore what was saved.
 
 ghost use Rattle.std.specs.Prelude.{◌≡◌};
-ghost use Rattle.mls_c.specs.Calls.{Does, Makes, SavesHeld, SavesIfMember, SavesMember, a_member, candidate_load, candidate_save, make_loaded_candidate, make_loaded_member, make_saved_candidate, member_load};
+ghost use Rattle.mls_c.specs.Calls.{Changes, Does, Makes, SavesConversation, SavesHeld, SavesHeldConversation, SavesIfConversation, SavesIfMember, SavesMember, a_conversation, a_member, candidate_load, candidate_save, conversation_restore, make_loaded_candidate, make_loaded_member, make_saved_candidate, member_load, restore_keys};
 ghost use Rattle.mls_c.specs.Given.{text};
 ghost use Rattle.mls_c.specs.Shown.{shown};
 ghost use Rattle.mls_c.specs.declared.held.Held.TheVariants.{Nothing};
@@ -9,9 +9,9 @@ ghost use Rattle.mls_c.specs.declared.held.Held.TheVariants.{Nothing};
 use crate::done::{Done, Fruit};
 use crate::given::Given;
 use crate::held::Held;
-use crate::make::{fill, fill_bytes, room};
-use crate::taken::{bytes_in, candidate_of, member_of};
-use mls::{Candidate, Member, Suite0001};
+use crate::make::{fill, fill_bytes, number, room};
+use crate::taken::{bytes_in, candidate_of, conversation_of, member_of, take_conversation};
+use mls::{Candidate, Conversation, Member, Suite0001};
 use std::alloc::Global;
 
 /// The bytes that a candidate is saved as, in a handle.
@@ -112,4 +112,63 @@ pub(crate) fn member_load(alloc: Global, held: Held, saved: &Given) -> Done
 {
     let outcome = make_loaded_member(alloc, saved);
     Done { held, outcome }
+}
+
+/// The bytes that a conversation is saved as, in a handle.
+#[tactic(auto, using(crate::proofs::Decoded::unsaved))]
+fn save_conversation(alloc: Global, conversation: &Conversation<Suite0001>) -> Result<Fruit, u32>
+    ensures { SavesConversation conversation.now result }
+{
+    let room = room(alloc)?;
+    match conversation.save() {
+        Ok(saved) => Ok(fill_bytes(room, saved)),
+        Err(error) => Err(error.number() as u32),
+    }
+}
+
+/// The bytes that the conversation of a handle is saved as, in a handle.
+fn make_saved_conversation(alloc: Global, held: &Held) -> Result<Fruit, u32>
+    ensures { SavesIfConversation (a_conversation (shown held.now)) result }
+{
+    match conversation_of(held) {
+        Ok(conversation) => save_conversation(alloc, conversation),
+        Err(number) => Err(number),
+    }
+}
+
+/// The bytes that the conversation of a handle is saved as.
+pub(crate) fn conversation_save(alloc: Global, held: Held) -> Done
+    ensures does { SavesHeldConversation (shown held) result }
+    ensures stays { held ≡ Nothing → result.held ≡ Nothing }
+{
+    let outcome = make_saved_conversation(alloc, &held);
+    Done { held, outcome }
+}
+
+/// A conversation goes on with the keys that bytes hold.
+#[tactic(auto, unfolding(crate::specs::Calls::restore_keys))]
+fn restore_keys(conversation: &mut Conversation<Suite0001>, saved: &Given) -> Result<Fruit, u32>
+    ensures { Changes (restore_keys (text saved.now) conversation.old)
+        conversation.old conversation.new result }
+{
+    let saved = bytes_in(saved)?;
+    match conversation.restore(saved) {
+        Ok(()) => Ok(number(0)),
+        Err(error) => Err(error.number() as u32),
+    }
+}
+
+/// The conversation of a handle goes on as the one that was saved so.
+#[tactic(auto, unfolding(crate::specs::Calls::conversation_restore, crate::specs::Calls::on_conversation, crate::specs::Calls::a_conversation))]
+pub(crate) fn conversation_restore(held: Held, saved: &Given) -> Done
+    ensures does { Does (conversation_restore (shown held) (text saved.now)) (shown held) result }
+    ensures stays { held ≡ Nothing → result.held ≡ Nothing }
+{
+    match take_conversation(held) {
+        Ok(mut conversation) => {
+            let outcome = restore_keys(&mut conversation, saved);
+            Done::of_conversation(conversation, outcome)
+        }
+        Err((held, number)) => Done::of_refusal(held, number),
+    }
 }
