@@ -114,6 +114,8 @@ def try_other_conversations(alice, bob, saved):
 def try_restored(alice, bob):
     """A conversation that is saved in its epoch goes on in it, once its member is loaded."""
     hers, his = alice.conversation(), bob.conversation()
+    fresh = b"\0\3\5group" + alice.epoch.to_bytes(8, "big") + alice.leaf_index.to_bytes(4, "big") + b"\1\0\x20"
+    hold("the form of a conversation", hers.save()[:-32] == fresh)
     first = hers.seal(b"first", seed(13))
     saved, member = hers.save(), alice.save()
     alice = mls.Member.load(member)
