@@ -2,7 +2,7 @@
 #![tactic(auto)]
 
 use anyhow::{Context, Result};
-use mls::{Candidate, Conversation, Item, Made, Member, Proposal, Suite0001};
+use mls::{Bytes, Candidate, Conversation, Item, Made, Member, Proposal, Seed, Suite0001};
 use std::alloc::Global;
 use std::str::from_utf8;
 
@@ -11,6 +11,17 @@ fn export_key(alloc: Global, member: &Member<Suite0001>) -> Result<String> {
     let mut key = [0; 16];
     member.secrets().export("example", b"file", &mut key)?;
     Ok(hex::encode(alloc, key.as_slice())?)
+}
+
+/// What one member says, as the other hears it.
+fn tell(
+    speaker: &mut Conversation<Suite0001>,
+    hearer: &mut Conversation<Suite0001>,
+    words: &[u8],
+    seed: &Seed,
+) -> Result<Bytes> {
+    let message = speaker.seal(words, &[], 0, seed)?;
+    Ok(hearer.open(&message)?.application_data)
 }
 
 /// Two members speak to each other. Each has one conversation in an epoch.
@@ -22,10 +33,9 @@ fn speak(
 ) -> Result<()> {
     let mut hers = Conversation::of(alloc, alice)?;
     let mut his = Conversation::of(alloc, bob)?;
-    let heard = his.open(&hers.seal(b"hello", &[], 0, &[8; 32])?)?;
-    let answer = hers.open(&his.seal(b"hi", &[], 0, &[9; 32])?)?;
-    let (hello, hi) = (heard.application_data, answer.application_data);
+    let hello = tell(&mut hers, &mut his, b"hello", &[8; 32])?;
     println!(rt; "bob hears {}", from_utf8(hello.as_slice())?)?;
+    let hi = tell(&mut his, &mut hers, b"hi", &[9; 32])?;
     println!(rt; "alice hears {}", from_utf8(hi.as_slice())?)?;
     Ok(())
 }
