@@ -110,6 +110,18 @@ fn removed_leaf(members: u32, turn: u32) -> u32 {
     (members / 4).saturating_mul(turn)
 }
 
+/// Prints a proposal of a member to remove another.
+fn print_removal(
+    rt: &impl Print,
+    alloc: Global,
+    member: &mut Member<Glass>,
+    leaf: u32,
+) -> Result<()> {
+    let message = member.propose_remove(leaf)?;
+    println!(rt; "{}", hex::encode(alloc, &message)?)?;
+    Ok(())
+}
+
 /// Prints proposals of a member to remove others, and its commit of these.
 fn print_proposals(
     rt: &impl Print,
@@ -118,11 +130,13 @@ fn print_proposals(
     members: u32,
 ) -> Result<()> {
     for turn in 1..4 {
-        let message = member.propose_remove(removed_leaf(members, turn))?;
-        println!(rt; "{}", hex::encode(alloc, &message)?)?;
+        print_removal(rt, alloc, member, removed_leaf(members, turn))?;
     }
-    let kept = member.commit_kept(true, &seed(Purpose::Proposals, 0))?;
-    println!(rt; "{}", hex::encode(alloc, &kept.made.commit)?)?;
+    let commit = member
+        .commit_kept(true, &seed(Purpose::Proposals, 0))?
+        .made
+        .commit;
+    println!(rt; "{}", hex::encode(alloc, &commit)?)?;
     Ok(())
 }
 
@@ -141,15 +155,27 @@ fn build(rt: &impl Print, alloc: Global, members: u32) -> Result<()> {
     print_proposals(rt, alloc, &mut first, members)
 }
 
+/// A member commits with a path. It answers the commit.
+fn make_commit(rt: &impl Print, member: &mut Member<Glass>, number: u32) -> Result<Vec<u8>> {
+    let commit = member
+        .commit(&[], true, &seed(Purpose::Renewal, number))?
+        .commit;
+    println!(rt; "commit: {} bytes", commit.len())?;
+    Ok(commit)
+}
+
+/// A member follows a commit.
+fn follow(rt: &impl Print, member: &mut Member<Glass>, what: &str, commit: &[u8]) -> Result<()> {
+    member.process(commit)?;
+    println!(rt; "{what}: epoch {}", member.epoch())?;
+    Ok(())
+}
+
 /// A member commits with a path and follows that, and then the commit of a far member.
 fn call_member(rt: &impl Print, member: &mut Member<Glass>, number: u32, far: &[u8]) -> Result<()> {
-    let made = member.commit(&[], true, &seed(Purpose::Renewal, number))?;
-    println!(rt; "commit: {} bytes", made.commit.len())?;
-    member.process(&made.commit)?;
-    println!(rt; "own commit: epoch {}", member.epoch())?;
-    member.process(far)?;
-    println!(rt; "far commit: epoch {}", member.epoch())?;
-    Ok(())
+    let own = make_commit(rt, member, number)?;
+    follow(rt, member, "own commit", &own)?;
+    follow(rt, member, "far commit", far)
 }
 
 /// A message is sealed.
