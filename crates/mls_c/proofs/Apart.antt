@@ -13,14 +13,14 @@ use denote.Steps.{peeks}
 use Rattle.std.proofs.cell.Inside.{Good}
 use Rattle.std.proofs.Common.{w32, w64, ◌<◌, ◌^◌}
 use Rattle.mls_c.specs.Memory.{IfNull}
-use Rattle.mls_c.specs.declared.done.Done.{Done}
-use Rattle.mls_c.specs.declared.done.Parts.{Parts}
-use Rattle.mls_c.specs.declared.copying.CopyOutcome.{CopyOutcome as CopyValue}
-use Rattle.mls_c.specs.contracts.copying.CopyOutcome as copy_outcome
-use Rattle.mls_c.specs.contracts.held.Held as held
-use Rattle.mls_c.proofs.held.Held.TheLaws as held_laws
-use Rattle.mls_c.specs.contracts.done.Done as done
-use Rattle.mls_c.specs.contracts.done.Parts as parts
+use Rattle.mls_calls.specs.declared.done.Done.{Done}
+use Rattle.mls_calls.specs.declared.done.Parts.{Parts}
+use Rattle.mls_calls.specs.declared.copying.CopyOutcome.{CopyOutcome as CopyValue}
+use Rattle.mls_calls.specs.contracts.copying.CopyOutcome as copy_outcome
+use Rattle.mls_calls.specs.contracts.held.Held as held
+use Rattle.mls_calls.proofs.held.Held.TheLaws as held_laws
+use Rattle.mls_calls.specs.contracts.done.Done as done
+use Rattle.mls_calls.specs.contracts.done.Parts as parts
 use Rattle.mls_c.proofs.CallRows.{Made, made_row_laws, Outcome, outcome_row_laws}
 use Rattle.mls_c.proofs.Rows.{apart}
 

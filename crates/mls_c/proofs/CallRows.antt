@@ -19,10 +19,10 @@ use Rattle.std.specs.contracts.option.Option as option
 use Rattle.std.proofs.option.Option.TheLaws as option_laws
 use Rattle.std.specs.contracts.result.Result as result
 use Rattle.std.proofs.result.Result.TheLaws as result_laws
-use Rattle.mls_c.specs.contracts.done.Fruit as fruit
-use Rattle.mls_c.proofs.done.Fruit.TheLaws as fruit_laws
-use Rattle.mls_c.specs.contracts.held.Held as held
-use Rattle.mls_c.proofs.held.Held.TheLaws as held_laws
+use Rattle.mls_calls.specs.contracts.done.Fruit as fruit
+use Rattle.mls_calls.proofs.done.Fruit.TheLaws as fruit_laws
+use Rattle.mls_calls.specs.contracts.held.Held as held
+use Rattle.mls_calls.proofs.held.Held.TheLaws as held_laws
 
 abbrev pub Boxed : RattleType
 Boxed = boxed.the_row held.the_row heap.the_row ghosts

@@ -5,9 +5,9 @@ use denote.Param.Mute.{blank}
 use Rattle.std.specs.Global.{Box}
 use Rattle.std.specs.declared.option.Option.{Option}
 use Rattle.std.specs.declared.option.Option.TheVariants.{None, Some}
-use Rattle.mls_c.specs.declared.held.Held.{Held as Kept}
-use Rattle.mls_c.specs.declared.held.Held.TheVariants.{Nothing, Bytes, Candidate, Member, Conversation}
-use Rattle.mls_c.specs.contracts.held.Held as held
+use Rattle.mls_calls.specs.declared.held.Held.{Held as Kept}
+use Rattle.mls_calls.specs.declared.held.Held.TheVariants.{Nothing, Bytes, Candidate, Member, Conversation}
+use Rattle.mls_calls.specs.contracts.held.Held as held
 use Rattle.mls_c.proofs.CallRows.{Made}
 
 pub held_blank : (x : Kept) (f : Last (held.the_row.exit yes) x) → T (blank (left (held.the_row.exit yes) x f))

@@ -11,8 +11,8 @@ use denote.Steps.{nothing}
 use denote.Enum.Row.{tagged_with}
 use denote.Enum.Enum.{form_of, in_a_row}
 use denote.Enum.Declared.{shape}
-use Rattle.mls_c.specs.declared.call.Call.TheVariants.{BytesLength, CandidateNew, CandidateKeyPackage, MemberCreate, MemberJoin, MemberEpoch, MemberGroupId, MemberProcess, MemberProposeAdd, MemberProposeUpdate, MemberCommitKept, MemberProposeRemove, MemberDropPending, MemberLeafIndex, BytesAt, RefusalName, CandidateSave, CandidateLoad, MemberSave, MemberLoad, MemberExport, MemberLeafCount, MemberAt, MemberProposeExtensions, ConversationNew, ConversationSeal, ConversationOpen, MemberCommit, MemberInspect, MemberReference, MemberExtensions, KeyPackageIdentity, ConversationMemberAt, MemberForgetProposal, MemberPendingCommit, MessagePlace, ConversationSave, ConversationRestore}
-use Rattle.mls_c.specs.contracts.call.Call as call
+use Rattle.mls_calls.specs.declared.call.Call.TheVariants.{BytesLength, CandidateNew, CandidateKeyPackage, MemberCreate, MemberJoin, MemberEpoch, MemberGroupId, MemberProcess, MemberProposeAdd, MemberProposeUpdate, MemberCommitKept, MemberProposeRemove, MemberDropPending, MemberLeafIndex, BytesAt, RefusalName, CandidateSave, CandidateLoad, MemberSave, MemberLoad, MemberExport, MemberLeafCount, MemberAt, MemberProposeExtensions, ConversationNew, ConversationSeal, ConversationOpen, MemberCommit, MemberInspect, MemberReference, MemberExtensions, KeyPackageIdentity, ConversationMemberAt, MemberForgetProposal, MemberPendingCommit, MessagePlace, ConversationSave, ConversationRestore}
+use Rattle.mls_calls.specs.contracts.call.Call as call
 
 pub made_BytesLength : {M : Type 1} {𝓤 : Ura M} (𝓛 : Logic 𝓤) → ent 𝓤 (emp 𝓤) (sem 𝓛 (call.the_row.own_val BytesLength (live 0 (of_list []) ∷ [])))
 made_BytesLength 𝓛 = let v : Val = live 0 (of_list []) in

@@ -1,10 +1,3 @@
-pub mod Answers
-pub mod Calls
-pub mod Faults
-pub mod Given
-pub mod Listing
 pub mod Loose
 pub mod Memory
-pub mod Names
 pub mod Passing
-pub mod Shown

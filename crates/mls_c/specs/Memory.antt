@@ -1,5 +1,5 @@
 -- What lies at the pointers that C passes.
-use Rattle.std.specs.Prelude.{◌≡◌, ℕ, ◌<◌, ◌^◌, List, [], Option, None, Result, Ok, Err, ⊤}
+use Rattle.std.specs.Prelude.{◌≡◌, ℕ, ◌<◌, ◌^◌, List, [], Option, Result, ⊤}
 use base.Fraction.{full_share}
 use base.Fml.{Fml, Share, ftrue, fsep, fex}
 use denote.RattleType.{RattleType}
@@ -9,19 +9,18 @@ use denote.RawPtr.{Ptr, block_ptr, null_ptr, Testable, lies_at, room_at}
 use Rattle.std.specs.Global.{Global, Vec}
 use Rattle.std.specs.contracts.impls.GlobalAllocator.TheImpl.{ghosts}
 use Rattle.std_alloc.specs.Box.Ownership.{box_owns}
-use Rattle.mls_c.specs.Answers.{DoesCall}
-use Rattle.mls_c.specs.Faults.{number_of}
-use Rattle.mls_c.specs.declared.error.MisuseError.TheVariants.{NullHandle}
-use Rattle.mls_c.specs.Given.{IsGiven, given_bytes}
+use Rattle.mls_calls.specs.Answers.{DoesCall}
+use Rattle.mls_calls.specs.Faults.{number_of}
+use Rattle.mls_calls.specs.declared.error.MisuseError.TheVariants.{NullHandle}
+use Rattle.mls_calls.specs.Given.{IsGiven, given_bytes}
 use Rattle.mls_c.specs.Loose.{loose_owns}
-use Rattle.mls_c.specs.Shown.{boxed, shown}
-use Rattle.mls_c.specs.contracts.held.Held.{the_row}
-use Rattle.mls_c.specs.declared.call.Call.{Call}
-use Rattle.mls_c.specs.declared.done.Done.{Done}
-use Rattle.mls_c.specs.declared.done.Fruit.{Fruit}
-use Rattle.mls_c.specs.declared.done.Parts.{Parts}
-use Rattle.mls_c.specs.declared.held.Held.{Held}
-use Rattle.mls_c.specs.declared.held.Held.TheVariants.{Nothing}
+use Rattle.mls_calls.specs.Parts.{made_of, other_of, value_of, answer_number}
+use Rattle.mls_calls.specs.Shown.{shown}
+use Rattle.mls_calls.specs.contracts.held.Held.{the_row}
+use Rattle.mls_calls.specs.declared.call.Call.{Call}
+use Rattle.mls_calls.specs.declared.done.Done.{Done}
+use Rattle.mls_calls.specs.declared.held.Held.{Held}
+use Rattle.mls_calls.specs.declared.held.Held.TheVariants.{Nothing}
 
 -- P, where the pointer is null
 abbrev pub IfNull : Ptr → Type 0 → Type 0
@@ -66,29 +65,6 @@ handle_put null_ptr made = ftrue
 handle_put (block_ptr b o) made = fex (Ptr × Global) (λ s.
     fsep (lies_at RawPtr full_share (block_ptr b o) s.0)
     (loose_owns (ghosts.dealloc_token s.1) the_row s.0 made))
-
--- ---- what a call leaves
-abbrev pub made_of : Result Fruit ℕ → Option Held
-made_of (Ok f) = boxed f.made
-made_of (Err n) = None
-
-abbrev pub other_of : Result Fruit ℕ → Option Held
-other_of (Ok f) = boxed f.other
-other_of (Err n) = None
-
-abbrev pub value_of : Result Fruit ℕ → ℕ
-value_of (Ok f) = f.value
-value_of (Err n) = 0
-
--- 0 where the call is good
-abbrev pub answer_number : Result Fruit ℕ → ℕ
-answer_number (Ok f) = 0
-answer_number (Err n) = n
-
-abbrev pub ArePartsOf : Result Fruit ℕ → Parts → Type 0
-ArePartsOf outcome p =
-    (boxed p.made ≡ made_of outcome) × (boxed p.other ≡ other_of outcome)
-    × (p.value ≡ value_of outcome) × (p.answer ≡ answer_number outcome)
 
 -- ---- a whole call
 

@@ -3,9 +3,9 @@
 ghost use types.Logic.{sem};
 ghost use Rattle.mls_c.specs.Memory.{Asked, asked_at, answered_at};
 ghost use Rattle.mls_c.specs.Passing.{begins_at, loads_at, makes_at, reads_at};
-ghost use Rattle.mls_c.specs.declared.call.Call.TheVariants.{CandidateNew, CandidateKeyPackage, CandidateSave, CandidateLoad, KeyPackageIdentity};
+ghost use Rattle.mls_calls.specs.declared.call.Call.TheVariants.{CandidateNew, CandidateKeyPackage, CandidateSave, CandidateLoad, KeyPackageIdentity};
 
-use crate::held::Handle;
+use crate::handle::Handle;
 use crate::run::run_call;
 use std::alloc::Global;
 

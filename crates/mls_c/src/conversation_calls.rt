@@ -3,9 +3,9 @@
 ghost use types.Logic.{sem};
 ghost use Rattle.mls_c.specs.Memory.{Asked, asked_at, answered_at};
 ghost use Rattle.mls_c.specs.Passing.{finds_at, makes_at, opens_at, restores_at, seals_at};
-ghost use Rattle.mls_c.specs.declared.call.Call.TheVariants.{ConversationNew, ConversationSeal, ConversationOpen, ConversationMemberAt, ConversationSave, ConversationRestore};
+ghost use Rattle.mls_calls.specs.declared.call.Call.TheVariants.{ConversationNew, ConversationSeal, ConversationOpen, ConversationMemberAt, ConversationSave, ConversationRestore};
 
-use crate::held::Handle;
+use crate::handle::Handle;
 use crate::run::run_call;
 use std::alloc::Global;
 

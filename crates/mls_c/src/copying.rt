@@ -2,50 +2,14 @@
 
 ghost use Rattle.std.specs.Prelude.{◌≡◌};
 ghost use types.Logic.{sem};
-ghost use Rattle.mls_c.specs.Calls.{Copies, bytes_for};
 ghost use Rattle.mls_c.specs.Memory.{held_at};
-ghost use Rattle.mls_c.specs.Shown.{shown};
-ghost use Rattle.mls_c.specs.declared.held.Held.{Held};
+ghost use Rattle.mls_calls.specs.Calls.{Copies};
+ghost use Rattle.mls_calls.specs.Shown.{shown};
+ghost use Rattle.mls_calls.specs.declared.held.Held.{Held};
 
-use crate::error::MisuseError;
-use crate::held::{Handle, Held};
+use crate::handle::Handle;
 use crate::pointer::{let_go, nothing, swap_held};
-use crate::taken::bytes_of;
-
-/// What the handle holds after a copy, and what the call answers.
-#[derive(Drop)]
-pub struct CopyOutcome {
-    /// What the handle holds.
-    pub held: Held,
-    /// What the call answers.
-    pub answer: u32,
-}
-
-/// Copies bytes into a buffer of exactly their length.
-#[tactic(auto, unfolding(crate::specs::Calls::bytes_for))]
-fn fill_buffer(held: &Held, buffer: &mut [u8]) -> u32
-    ensures { Copies (shown held.now) buffer.old buffer.new result }
-{
-    match bytes_of(held) {
-        Ok(bytes) => {
-            if bytes.len() != buffer.len() {
-                return MisuseError::BufferLength.number();
-            }
-            buffer.copy_from_slice(bytes);
-            0
-        }
-        Err(number) => number,
-    }
-}
-
-/// Copies what is held into a buffer of just its length.
-pub(crate) fn copy_out(held: Held, buffer: &mut [u8]) -> CopyOutcome
-    ensures held { result.held ≡ held }
-    ensures value { Copies (shown held) buffer.old buffer.new result.answer }
-{
-    let answer = fill_buffer(&held, buffer);
-    CopyOutcome { held, answer }
-}
+use mls_calls::{CopyOutcome, copy_out};
 
 /// Copies the bytes of a handle into a buffer of exactly their length.
 pub(crate) unsafe fn copy_bytes(at: *mut Handle, buffer: &mut [u8]) -> u32

@@ -2,41 +2,26 @@
 //! 0 where it is good; after a refusal its handle is as before.
 #![tactic(auto)]
 
-mod call;
 mod candidate_calls;
-mod candidates;
-mod commits;
 mod conversation_calls;
-mod conversations;
 mod copying;
-mod dispatch;
-mod done;
-mod error;
-mod given;
-mod held;
-mod identities;
+mod handle;
 mod loose;
-mod make;
 mod member_calls;
-mod members;
-mod names;
 mod pointer;
 mod run;
-mod saved;
-mod seen;
-mod taken;
 
 ghost use Rattle.std.specs.Prelude.{◌≡◌};
 ghost use types.Logic.{sem};
-ghost use Rattle.mls_c.specs.Calls.{Copies};
-ghost use Rattle.mls_c.specs.Shown.{shown};
+ghost use Rattle.mls_calls.specs.Calls.{Copies};
+ghost use Rattle.mls_calls.specs.Shown.{shown};
 ghost use Rattle.mls_c.specs.Memory.{Asked, asked_at, answered_at, free_answer, held_at};
 ghost use Rattle.mls_c.specs.Passing.{names_at, places_at, tells_at};
-ghost use Rattle.mls_c.specs.declared.held.Held.{Held};
-ghost use Rattle.mls_c.specs.declared.call.Call.TheVariants.{BytesLength, BytesAt, MessagePlace, RefusalName};
+ghost use Rattle.mls_calls.specs.declared.held.Held.{Held};
+ghost use Rattle.mls_calls.specs.declared.call.Call.TheVariants.{BytesLength, BytesAt, MessagePlace, RefusalName};
 
 use copying::copy_bytes;
-pub use held::Handle;
+pub use handle::Handle;
 use pointer::free_handle;
 use run::run_call;
 use std::alloc::Global;

@@ -3,9 +3,9 @@
 ghost use types.Logic.{sem};
 ghost use Rattle.mls_c.specs.Memory.{Asked, asked_at, answered_at};
 ghost use Rattle.mls_c.specs.Passing.{commits_at, finds_at, follows_at, gives_at, inspects_at, lists_at, loads_at, makes_at, takes_at, tells_at};
-ghost use Rattle.mls_c.specs.declared.call.Call.TheVariants.{MemberCreate, MemberJoin, MemberEpoch, MemberGroupId, MemberProcess, MemberProposeAdd, MemberProposeUpdate, MemberCommitKept, MemberProposeRemove, MemberDropPending, MemberLeafIndex, MemberSave, MemberLoad, MemberExport, MemberLeafCount, MemberAt, MemberProposeExtensions, MemberCommit, MemberInspect, MemberReference, MemberExtensions, MemberForgetProposal, MemberPendingCommit};
+ghost use Rattle.mls_calls.specs.declared.call.Call.TheVariants.{MemberCreate, MemberJoin, MemberEpoch, MemberGroupId, MemberProcess, MemberProposeAdd, MemberProposeUpdate, MemberCommitKept, MemberProposeRemove, MemberDropPending, MemberLeafIndex, MemberSave, MemberLoad, MemberExport, MemberLeafCount, MemberAt, MemberProposeExtensions, MemberCommit, MemberInspect, MemberReference, MemberExtensions, MemberForgetProposal, MemberPendingCommit};
 
-use crate::held::Handle;
+use crate::handle::Handle;
 use crate::run::run_call;
 use std::alloc::Global;
 

@@ -4,19 +4,18 @@ ghost use Rattle.std.specs.Prelude.{◌≡◌, ℕ, List};
 ghost use base.Fml.{Share};
 ghost use denote.Builtin.{u64, RawPtr};
 ghost use types.Logic.{sem};
-ghost use Rattle.mls_c.specs.Given.{IsGiven};
+ghost use Rattle.mls_calls.specs.Given.{IsGiven};
 ghost use denote.RawPtr.{InBlock};
-ghost use Rattle.mls_c.specs.Faults.{number_of};
-ghost use Rattle.mls_c.specs.declared.error.MisuseError.TheVariants.{NullHandle};
+ghost use Rattle.mls_calls.specs.Faults.{number_of};
+ghost use Rattle.mls_calls.specs.declared.error.MisuseError.TheVariants.{NullHandle};
 ghost use Rattle.mls_c.specs.Memory.{free_answer, held_at, bytes_at, room_if, handle_put, number_put, IfNull};
-ghost use Rattle.mls_c.specs.Shown.{boxed};
-ghost use Rattle.mls_c.specs.declared.held.Held.{Held};
-ghost use Rattle.mls_c.specs.declared.held.Held.TheVariants.{Nothing};
+ghost use Rattle.mls_calls.specs.Shown.{boxed};
+ghost use Rattle.mls_calls.specs.declared.held.Held.{Held};
+ghost use Rattle.mls_calls.specs.declared.held.Held.TheVariants.{Nothing};
 
-use crate::error::MisuseError;
-use crate::given::{Given, bytes_of, no_bytes};
-use crate::held::{Handle, Held};
+use crate::handle::Handle;
 use crate::loose::Loose;
+use mls_calls::{Given, Held, MisuseError, bytes_of, no_bytes};
 use std::alloc::Global;
 
 /// What null holds.

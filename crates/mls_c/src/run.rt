@@ -5,11 +5,9 @@ ghost use types.Logic.{sem};
 ghost use Rattle.mls_c.specs.Memory.{Asked, asked_at, answered_at};
 ghost use Rattle.mls_c.specs.Passing.{runs_at};
 
-use crate::call::Call;
-use crate::dispatch::do_call;
-use crate::done::{Done, Parts, parts_of};
-use crate::held::Handle;
+use crate::handle::Handle;
 use crate::pointer::{copy_at, let_go, nothing, put_handle, put_number, swap_held};
+use mls_calls::{Call, Done, Parts, do_call, parts_of};
 use std::alloc::Global;
 
 /// Does a call with a number, with what a handle holds, and with the bytes at three pointers, and writes what it makes.
@@ -79,7 +77,7 @@ macro_rules! run_call {
     ) => {
         $crate::run::run(
             $alloc,
-            $crate::call::Call::$call,
+            mls_calls::Call::$call,
             run_call!(@or 0; $($number)?),
             run_call!(@or std::ptr::null_mut(); $($handle)?),
             run_call!(@or std::ptr::null(); $($first)?),

@@ -22,9 +22,9 @@ use denote.Triple.Spec.{triple_of}
 use denote.Triple.Table.{framed}
 use denote.Triple.Walked.{Stays, walk_of, stay_dropped, Goes-dropped, gave_slice, Goes-gave_slice}
 use Rattle.std.proofs.raw_atomic.Walks.{proved, leaves}
-use Rattle.mls_c.specs.Calls.{Copies}
+use Rattle.mls_calls.specs.Calls.{Copies}
 use Rattle.mls_c.specs.Memory.{held_at}
-use Rattle.mls_c.specs.Shown.{shown}
+use Rattle.mls_calls.specs.Shown.{shown}
 use Rattle.mls_c.proofs.Rows.{typed}
 use Rattle.mls_c.specs.contracts.copying.copy_bytes as copies
 use Rattle.mls_c.proofs.copying.copy_bytes.Met as copies_thm

@@ -26,8 +26,8 @@ use Rattle.std.proofs.raw_atomic.Walks.{proved, leaves}
 use Rattle.std.specs.contracts.alloc.Global as heap
 use Rattle.std.proofs.alloc.Global.TheLaws as heap_laws
 use Rattle.mls_c.specs.Memory.{asked_at, Passed}
-use Rattle.mls_c.specs.declared.call.Call.TheVariants.{CandidateKeyPackage}
-use Rattle.mls_c.specs.contracts.call.Call as call
+use Rattle.mls_calls.specs.declared.call.Call.TheVariants.{CandidateKeyPackage}
+use Rattle.mls_calls.specs.contracts.call.Call as call
 use Rattle.mls_c.proofs.Named.{made_CandidateKeyPackage}
 use Rattle.mls_c.proofs.Rows.{typed, comes}
 use Rattle.mls_c.specs.contracts.run.run as runs

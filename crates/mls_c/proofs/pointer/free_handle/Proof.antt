@@ -32,11 +32,11 @@ use Rattle.std.proofs.alloc.Global.TheLaws as heap_laws
 use Rattle.std.specs.contracts.impls.GlobalAllocator.TheImpl.{ghosts}
 use Rattle.std.specs.declared.option.Option.TheVariants.{Some}
 use Rattle.std_heap.proofs.GlobalToken.{dealloc_token-Testable}
-use Rattle.mls_c.specs.Faults.{number_of}
-use Rattle.mls_c.specs.declared.error.MisuseError.TheVariants.{NullHandle}
+use Rattle.mls_calls.specs.Faults.{number_of}
+use Rattle.mls_calls.specs.declared.error.MisuseError.TheVariants.{NullHandle}
 use Rattle.mls_c.specs.Loose.{loose_owns}
 use Rattle.mls_c.specs.Memory.{held_at}
-use Rattle.mls_c.specs.contracts.held.Held as held
+use Rattle.mls_calls.specs.contracts.held.Held as held
 use Rattle.mls_c.proofs.Loosened.{both, Loose, loose_good, loose_in}
 use Rattle.mls_c.proofs.Rows.{by_pointer, typed, comes, holds}
 use Rattle.mls_c.specs.contracts.pointer.null_number as null_call

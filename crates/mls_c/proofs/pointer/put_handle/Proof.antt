@@ -32,11 +32,11 @@ use Rattle.std.specs.contracts.alloc.Global as heap
 use Rattle.std.proofs.alloc.Global.TheLaws as heap_laws
 use Rattle.std.specs.contracts.impls.GlobalAllocator.TheImpl.{ghosts}
 use Rattle.mls_c.specs.Memory.{room_if}
-use Rattle.mls_c.specs.Shown.{boxed}
+use Rattle.mls_calls.specs.Shown.{boxed}
 use Rattle.std.specs.declared.option.Option.{Option}
-use Rattle.mls_c.specs.declared.held.Held.{Held}
+use Rattle.mls_calls.specs.declared.held.Held.{Held}
 use Rattle.mls_c.specs.Loose.{loose_owns}
-use Rattle.mls_c.specs.contracts.held.Held as held
+use Rattle.mls_calls.specs.contracts.held.Held as held
 use Rattle.mls_c.proofs.Loosened.{loose_typed, loose_out}
 use Rattle.mls_c.proofs.CallRows.{Made, made_row_laws}
 use Rattle.mls_c.proofs.Rows.{by_pointer, comes}

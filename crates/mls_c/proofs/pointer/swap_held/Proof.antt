@@ -30,10 +30,10 @@ use Rattle.std.specs.contracts.impls.GlobalAllocator.TheImpl.{ghosts}
 use Rattle.std_alloc.specs.Box.Ownership.{box_owns}
 use Rattle.std_heap.proofs.GlobalToken.{dealloc_token-Testable}
 use Rattle.mls_c.specs.Memory.{IfNull, held_at}
-use Rattle.mls_c.specs.declared.held.Held.{Held}
-use Rattle.mls_c.specs.declared.held.Held.TheVariants.{Nothing}
-use Rattle.mls_c.specs.contracts.held.Held as held
-use Rattle.mls_c.proofs.held.Held.TheLaws as held_laws
+use Rattle.mls_calls.specs.declared.held.Held.{Held}
+use Rattle.mls_calls.specs.declared.held.Held.TheVariants.{Nothing}
+use Rattle.mls_calls.specs.contracts.held.Held as held
+use Rattle.mls_calls.proofs.held.Held.TheLaws as held_laws
 use Rattle.mls_c.proofs.Rows.{by_pointer, typed, holds}
 use Rattle.mls_c.proofs.Exits.{held_blank}
 use Rattle.mls_c.specs.contracts.pointer.swap_held as f

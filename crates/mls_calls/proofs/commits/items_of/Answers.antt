@@ -2,8 +2,8 @@ use Rattle.std.proofs.Common.{List, sym, subst}
 use Rattle.std.proofs.lemmas.List.{nil_from_length}
 use Rattle.mls_types.specs.declared.commit.ProposalOrRef.{ProposalOrRef}
 use Rattle.mls_model.specs.declared.item.Item.{Item}
-use Rattle.mls_c.proofs.Listing.{AreTaken, taken_first, taken_step, taken_end}
-use Rattle.mls_c.proofs.commits.items_of.Goals as goal
+use Rattle.mls_calls.proofs.Listing.{AreTaken, taken_first, taken_step, taken_end}
+use Rattle.mls_calls.proofs.commits.items_of.Goals as goal
 
 pub loop-listed-init : goal.loop-listed-init
 loop-listed-init c = subst (λ (l : List Item). AreTaken c.args.list.now c.args.list.now l) (sym c.new-items.ensures.items) (taken_first c.args.list.now c.requires)

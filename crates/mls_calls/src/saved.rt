@@ -1,10 +1,10 @@
 //! Calls that save, and that load or restore what was saved.
 
 ghost use Rattle.std.specs.Prelude.{◌≡◌};
-ghost use Rattle.mls_c.specs.Calls.{Changes, Does, Makes, SavesConversation, SavesHeld, SavesHeldConversation, SavesIfConversation, SavesIfMember, SavesMember, a_conversation, a_member, candidate_load, candidate_save, conversation_restore, make_loaded_candidate, make_loaded_member, make_saved_candidate, member_load, restore_keys};
-ghost use Rattle.mls_c.specs.Given.{text};
-ghost use Rattle.mls_c.specs.Shown.{shown};
-ghost use Rattle.mls_c.specs.declared.held.Held.TheVariants.{Nothing};
+ghost use Rattle.mls_calls.specs.Calls.{Changes, Does, Makes, SavesConversation, SavesHeld, SavesHeldConversation, SavesIfConversation, SavesIfMember, SavesMember, a_conversation, a_member, candidate_load, candidate_save, conversation_restore, make_loaded_candidate, make_loaded_member, make_saved_candidate, member_load, restore_keys};
+ghost use Rattle.mls_calls.specs.Given.{text};
+ghost use Rattle.mls_calls.specs.Shown.{shown};
+ghost use Rattle.mls_calls.specs.declared.held.Held.TheVariants.{Nothing};
 
 use crate::done::{Done, Fruit};
 use crate::given::Given;

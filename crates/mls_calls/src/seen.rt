@@ -3,10 +3,10 @@
 ghost use Rattle.std.specs.Prelude.{◌≡◌, ◌≤◌, MatchResult, length};
 ghost use Rattle.mls_kdf.specs.Kdf.{max_output};
 ghost use Rattle.mls_schedule.specs.Epoch.{export_secret};
-ghost use Rattle.mls_c.specs.Calls.{Does, Makes, SpellsExtensions, SpellsHeld, SpellsIfMember, a_member, make_export, make_pending_commit, make_reference, member_export, member_leaf_count, member_pending_commit, member_reference};
-ghost use Rattle.mls_c.specs.Given.{text};
-ghost use Rattle.mls_c.specs.Shown.{shown};
-ghost use Rattle.mls_c.specs.declared.held.Held.TheVariants.{Nothing};
+ghost use Rattle.mls_calls.specs.Calls.{Does, Makes, SpellsExtensions, SpellsHeld, SpellsIfMember, a_member, make_export, make_pending_commit, make_reference, member_export, member_leaf_count, member_pending_commit, member_reference};
+ghost use Rattle.mls_calls.specs.Given.{text};
+ghost use Rattle.mls_calls.specs.Shown.{shown};
+ghost use Rattle.mls_calls.specs.declared.held.Held.TheVariants.{Nothing};
 
 use crate::done::{Done, Fruit};
 use crate::given::{Given, OUT_OF_MEMORY};

@@ -3,9 +3,9 @@
 ghost use Rattle.std.specs.Prelude.{◌≡◌, ◌≤◌, IfOk, length};
 ghost use Rattle.mls_kdf.specs.Kdf.{max_output};
 ghost use Rattle.mls_wire.specs.Checks.{AnswersOutright};
-ghost use Rattle.mls_c.specs.Calls.{TakesConversation, TakesMember, a_candidate, a_conversation, a_label, a_leaf, a_member, a_seed, an_output, some_bytes};
-ghost use Rattle.mls_c.specs.Given.{text};
-ghost use Rattle.mls_c.specs.Shown.{shown};
+ghost use Rattle.mls_calls.specs.Calls.{TakesConversation, TakesMember, a_candidate, a_conversation, a_label, a_leaf, a_member, a_seed, an_output, some_bytes};
+ghost use Rattle.mls_calls.specs.Given.{text};
+ghost use Rattle.mls_calls.specs.Shown.{shown};
 
 use crate::error::MisuseError;
 use crate::given::Given;

@@ -1,10 +1,10 @@
 //! What each call answers.
 
 ghost use Rattle.std.specs.Prelude.{◌≡◌};
-ghost use Rattle.mls_c.specs.Answers.{DoesCall};
-ghost use Rattle.mls_c.specs.Given.{text};
-ghost use Rattle.mls_c.specs.Shown.{shown};
-ghost use Rattle.mls_c.specs.declared.held.Held.TheVariants.{Nothing};
+ghost use Rattle.mls_calls.specs.Answers.{DoesCall};
+ghost use Rattle.mls_calls.specs.Given.{text};
+ghost use Rattle.mls_calls.specs.Shown.{shown};
+ghost use Rattle.mls_calls.specs.declared.held.Held.TheVariants.{Nothing};
 
 use crate::call::Call;
 use crate::done::Done;
@@ -14,7 +14,7 @@ use crate::{candidates, commits, conversations, identities, members, names, save
 use std::alloc::Global;
 
 /// What a call does with a number, with what its handle holds, and with three texts.
-pub(crate) fn do_call(
+pub fn do_call(
     alloc: Global,
     call: Call,
     number: u64,

@@ -2,10 +2,10 @@
 
 ghost use Rattle.std.specs.Prelude.{◌≡◌, ◌≤◌};
 ghost use Rattle.mls_wire.specs.Names.{name_in};
-ghost use Rattle.mls_c.specs.Calls.{Does, refusal_name_of};
-ghost use Rattle.mls_c.specs.Names.{library_name, names_from_100};
-ghost use Rattle.mls_c.specs.Shown.{shown};
-ghost use Rattle.mls_c.specs.declared.held.Held.TheVariants.{Nothing};
+ghost use Rattle.mls_calls.specs.Calls.{Does, refusal_name_of};
+ghost use Rattle.mls_calls.specs.Names.{library_name, names_from_100};
+ghost use Rattle.mls_calls.specs.Shown.{shown};
+ghost use Rattle.mls_calls.specs.declared.held.Held.TheVariants.{Nothing};
 
 use crate::done::Done;
 use crate::held::Held;

@@ -1,10 +1,10 @@
 //! Calls on bytes, and calls that make candidates and members.
 
 ghost use Rattle.std.specs.Prelude.{◌≡◌};
-ghost use Rattle.mls_c.specs.Calls.{Does, Makes, bytes_at, bytes_length, candidate_new, candidate_key_package, make_candidate, make_group, make_group_id, make_joiner, make_package, member_create, member_epoch, member_group_id, member_join, member_leaf_index};
-ghost use Rattle.mls_c.specs.Given.{text};
-ghost use Rattle.mls_c.specs.Shown.{shown};
-ghost use Rattle.mls_c.specs.declared.held.Held.TheVariants.{Nothing};
+ghost use Rattle.mls_calls.specs.Calls.{Does, Makes, bytes_at, bytes_length, candidate_new, candidate_key_package, make_candidate, make_group, make_group_id, make_joiner, make_package, member_create, member_epoch, member_group_id, member_join, member_leaf_index};
+ghost use Rattle.mls_calls.specs.Given.{text};
+ghost use Rattle.mls_calls.specs.Shown.{shown};
+ghost use Rattle.mls_calls.specs.declared.held.Held.TheVariants.{Nothing};
 
 use crate::done::{Done, Fruit};
 use crate::error::MisuseError;

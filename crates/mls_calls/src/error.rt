@@ -1,7 +1,7 @@
 //! What the library refuses before a call begins.
 
 ghost use Rattle.std.specs.Prelude.{◌≡◌};
-ghost use Rattle.mls_c.specs.Faults.{name_of, number_of};
+ghost use Rattle.mls_calls.specs.Faults.{name_of, number_of};
 
 use thiserror::Error;
 

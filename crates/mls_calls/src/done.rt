@@ -1,8 +1,8 @@
 //! What a call leaves.
 
 ghost use Rattle.std.specs.Prelude.{◌≡◌, Err};
-ghost use Rattle.mls_c.specs.Memory.{ArePartsOf};
-ghost use Rattle.mls_c.specs.declared.held.Held.TheVariants as variants;
+ghost use Rattle.mls_calls.specs.Parts.{ArePartsOf};
+ghost use Rattle.mls_calls.specs.declared.held.Held.TheVariants as variants;
 
 use crate::held::Held;
 use mls::{Conversation, Member, Suite0001};
@@ -79,7 +79,7 @@ pub struct Parts {
 }
 
 /// The parts of an outcome.
-pub(crate) fn parts_of(outcome: Result<Fruit, u32>) -> Parts
+pub fn parts_of(outcome: Result<Fruit, u32>) -> Parts
     ensures { ArePartsOf outcome result }
 {
     match outcome {

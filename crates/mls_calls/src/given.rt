@@ -1,7 +1,7 @@
 //! Bytes that C passes.
 
 ghost use Rattle.std.specs.Prelude.{◌≡◌};
-ghost use Rattle.mls_c.specs.Given.{IsCopy, IsNone};
+ghost use Rattle.mls_calls.specs.Given.{IsCopy, IsNone};
 
 use crate::error::MisuseError;
 use std::alloc::Global;
@@ -27,7 +27,7 @@ pub(crate) fn copy_of(alloc: Global, bytes: &[u8]) -> Result<Vec<u8>, u32>
 }
 
 /// A copy of bytes that were passed.
-pub(crate) fn bytes_of(alloc: Global, bytes: &[u8]) -> Given
+pub fn bytes_of(alloc: Global, bytes: &[u8]) -> Given
     ensures { IsCopy bytes.now result.bytes }
 {
     Given {
@@ -36,7 +36,7 @@ pub(crate) fn bytes_of(alloc: Global, bytes: &[u8]) -> Given
 }
 
 /// What stands for bytes at null: none, or `NullBytes` (132) where they have a length.
-pub(crate) fn no_bytes(alloc: Global, length: usize) -> Given
+pub fn no_bytes(alloc: Global, length: usize) -> Given
     ensures { IsNone length result.bytes }
 {
     Given {

@@ -40,15 +40,15 @@ use Rattle.mls_member.specs.GroupMembers.{group_member}
 use Rattle.mls_member.specs.KeptProposals.{kept_reference, without_kept}
 use Rattle.mls_member.specs.KeptTogether.{kept_list}
 use Rattle.mls_member.specs.Saved.{saved_of, load, FitsInput}
-use Rattle.mls_c.specs.Faults.{number_of}
-use Rattle.mls_c.specs.Given.{Text}
-use Rattle.mls_c.specs.Names.{library_name}
-use Rattle.mls_c.specs.Shown.{Shown, nothing, bytes, candidate, member, conversation, shown, Fruits, fruits}
-use Rattle.mls_c.specs.declared.done.Done.{Done}
-use Rattle.mls_c.specs.declared.done.Fruit.{Fruit}
-use Rattle.mls_c.specs.declared.error.MisuseError.TheVariants.{NullHandle, OtherHandle, SeedLength, NotKeyPackage, BufferLength, NotLabel}
-use Rattle.mls_c.specs.declared.held.Held.{Held}
-use Rattle.mls_c.specs.declared.held.Held.TheVariants as held
+use Rattle.mls_calls.specs.Faults.{number_of}
+use Rattle.mls_calls.specs.Given.{Text}
+use Rattle.mls_calls.specs.Names.{library_name}
+use Rattle.mls_calls.specs.Shown.{Shown, nothing, bytes, candidate, member, conversation, shown, Fruits, fruits}
+use Rattle.mls_calls.specs.declared.done.Done.{Done}
+use Rattle.mls_calls.specs.declared.done.Fruit.{Fruit}
+use Rattle.mls_calls.specs.declared.error.MisuseError.TheVariants.{NullHandle, OtherHandle, SeedLength, NotKeyPackage, BufferLength, NotLabel}
+use Rattle.mls_calls.specs.declared.held.Held.{Held}
+use Rattle.mls_calls.specs.declared.held.Held.TheVariants as held
 
 -- what a call answers: what it makes with what its handle holds then, or the number of a refusal
 abbrev pub Answer : Type 0

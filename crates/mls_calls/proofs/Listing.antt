@@ -19,7 +19,7 @@ use Rattle.mls_public_group.proofs.Limits.{read_below}
 use Rattle.mls_public_group.proofs.Rest.{all_behind}
 use Rattle.mls_public_group.proofs.ShortProposal.{short_parts}
 use Rattle.mls_member.specs.Answers.{IsShortItem, AreShortItems}
-use Rattle.mls_c.specs.Listing.{IsShortListed, AreShortListed}
+use Rattle.mls_calls.specs.Listing.{IsShortListed, AreShortListed}
 
 -- ---- lengths
 

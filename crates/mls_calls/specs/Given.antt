@@ -2,9 +2,9 @@
 use Rattle.std.specs.Prelude.{◌≡◌, ℕ, ◌<◌, List, [], Result, Ok, Err, MatchResult}
 use denote.RawPtr.{Ptr, block_ptr, null_ptr}
 use Rattle.std.specs.Global.{Vec}
-use Rattle.mls_c.specs.Faults.{number_of}
-use Rattle.mls_c.specs.declared.error.MisuseError.TheVariants.{NullBytes}
-use Rattle.mls_c.specs.declared.given.Given.{Given}
+use Rattle.mls_calls.specs.Faults.{number_of}
+use Rattle.mls_calls.specs.declared.error.MisuseError.TheVariants.{NullBytes}
+use Rattle.mls_calls.specs.declared.given.Given.{Given}
 
 -- the copy, or `OutOfMemory` (1)
 abbrev pub IsCopy : List ℕ → Result (Vec ℕ) ℕ → Type 0

@@ -4,9 +4,9 @@ use Rattle.std.specs.Global.{Box}
 use Rattle.mls_model.specs.Candidate.{Candidate}
 use Rattle.mls_model.specs.Member.{Member}
 use Rattle.mls_exchange.specs.State.{State}
-use Rattle.mls_c.specs.declared.held.Held.{Held}
-use Rattle.mls_c.specs.declared.held.Held.TheVariants as held
-use Rattle.mls_c.specs.declared.done.Fruit.{Fruit}
+use Rattle.mls_calls.specs.declared.held.Held.{Held}
+use Rattle.mls_calls.specs.declared.held.Held.TheVariants as held
+use Rattle.mls_calls.specs.declared.done.Fruit.{Fruit}
 
 pub data Shown : Type 0 where
   nothing : Shown

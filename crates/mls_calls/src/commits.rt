@@ -4,11 +4,11 @@ ghost use Rattle.std.specs.Prelude.{◌≡◌, option_map, map, IfOk};
 ghost use Rattle.mls_wire.specs.Checks.{Answers};
 ghost use Rattle.mls_model.specs.Make.{list_item_of};
 ghost use Rattle.mls_member.specs.Answers.{IsShortItem, AreShortItems};
-ghost use Rattle.mls_c.specs.Calls.{Changes, Does, commit_kept_list, commit_given_list, member_commit, member_commit_kept, on_member, some_proposals};
-ghost use Rattle.mls_c.specs.Given.{text};
-ghost use Rattle.mls_c.specs.Listing.{IsShortListed, AreShortListed, ListsItems};
-ghost use Rattle.mls_c.specs.Shown.{shown};
-ghost use Rattle.mls_c.specs.declared.held.Held.TheVariants.{Nothing};
+ghost use Rattle.mls_calls.specs.Calls.{Changes, Does, commit_kept_list, commit_given_list, member_commit, member_commit_kept, on_member, some_proposals};
+ghost use Rattle.mls_calls.specs.Given.{text};
+ghost use Rattle.mls_calls.specs.Listing.{IsShortListed, AreShortListed, ListsItems};
+ghost use Rattle.mls_calls.specs.Shown.{shown};
+ghost use Rattle.mls_calls.specs.declared.held.Held.TheVariants.{Nothing};
 
 use crate::done::{Done, Fruit};
 use crate::given::{Given, OUT_OF_MEMORY};

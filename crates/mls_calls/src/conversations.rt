@@ -1,10 +1,10 @@
 //! Calls on conversations.
 
 ghost use Rattle.std.specs.Prelude.{◌≡◌};
-ghost use Rattle.mls_c.specs.Calls.{Changes, Does, Makes, a_seed, conversation_new, conversation_open, conversation_seal, make_conversation, on_conversation, open_data, seal_data};
-ghost use Rattle.mls_c.specs.Given.{text};
-ghost use Rattle.mls_c.specs.Shown.{shown};
-ghost use Rattle.mls_c.specs.declared.held.Held.TheVariants.{Nothing};
+ghost use Rattle.mls_calls.specs.Calls.{Changes, Does, Makes, a_seed, conversation_new, conversation_open, conversation_seal, make_conversation, on_conversation, open_data, seal_data};
+ghost use Rattle.mls_calls.specs.Given.{text};
+ghost use Rattle.mls_calls.specs.Shown.{shown};
+ghost use Rattle.mls_calls.specs.declared.held.Held.TheVariants.{Nothing};
 
 use crate::done::{Done, Fruit};
 use crate::given::Given;

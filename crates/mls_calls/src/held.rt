@@ -2,13 +2,6 @@
 
 use mls::{Bytes, Candidate, Conversation, Member, Suite0001};
 
-/// What C points to. Only the library looks into it.
-#[repr(C)]
-#[derive(Drop)]
-pub struct Handle {
-    opaque: u8,
-}
-
 /// What a handle holds.
 #[derive(Drop)]
 pub enum Held {

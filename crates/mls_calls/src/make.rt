@@ -1,8 +1,8 @@
 //! Room for what a call makes.
 
 ghost use Rattle.std.specs.Prelude.{◌≡◌, IfErr, MatchResult};
-ghost use Rattle.mls_c.specs.Calls.{IsTwo, makes, tells};
-ghost use Rattle.mls_c.specs.Shown.{bytes as shown_bytes, fruits, shown};
+ghost use Rattle.mls_calls.specs.Calls.{IsTwo, makes, tells};
+ghost use Rattle.mls_calls.specs.Shown.{bytes as shown_bytes, fruits, shown};
 
 use crate::done::Fruit;
 use crate::given::{OUT_OF_MEMORY, copy_of};

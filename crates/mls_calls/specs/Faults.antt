@@ -1,7 +1,7 @@
 -- The numbers and names of calls that the library for C refuses before they begin.
 use Rattle.std.specs.Prelude.{ℕ, List, codes}
-use Rattle.mls_c.specs.declared.error.MisuseError.{MisuseError}
-use Rattle.mls_c.specs.declared.error.MisuseError.TheVariants.{NullHandle, OtherHandle, NullBytes, SeedLength, NotKeyPackage, BufferLength, NotLabel}
+use Rattle.mls_calls.specs.declared.error.MisuseError.{MisuseError}
+use Rattle.mls_calls.specs.declared.error.MisuseError.TheVariants.{NullHandle, OtherHandle, NullBytes, SeedLength, NotKeyPackage, BufferLength, NotLabel}
 
 -- the number that the call answers
 abbrev pub number_of : MisuseError → ℕ

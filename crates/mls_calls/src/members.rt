@@ -2,11 +2,11 @@
 
 ghost use Rattle.std.specs.Prelude.{◌≡◌};
 ghost use Rattle.mls_wire.specs.Checks.{Answers, AnswersOutright};
-ghost use Rattle.mls_c.specs.Calls.{Changes, Does, Makes, a_package, propose_package, effect_number, member_process, member_propose_add, member_propose_update, on_member, package_in, follow_message, propose_key, propose_removal, member_propose_remove, forget_pending, member_drop_pending, propose_extension_list, some_extensions, member_propose_extensions, make_inspection, member_inspect, shows_member, forget_given, member_forget_proposal};
+ghost use Rattle.mls_calls.specs.Calls.{Changes, Does, Makes, a_package, propose_package, effect_number, member_process, member_propose_add, member_propose_update, on_member, package_in, follow_message, propose_key, propose_removal, member_propose_remove, forget_pending, member_drop_pending, propose_extension_list, some_extensions, member_propose_extensions, make_inspection, member_inspect, shows_member, forget_given, member_forget_proposal};
 ghost use Rattle.mls_model.specs.Messages.{decode_message};
-ghost use Rattle.mls_c.specs.Given.{text};
-ghost use Rattle.mls_c.specs.Shown.{fruits, shown};
-ghost use Rattle.mls_c.specs.declared.held.Held.TheVariants.{Nothing};
+ghost use Rattle.mls_calls.specs.Given.{text};
+ghost use Rattle.mls_calls.specs.Shown.{fruits, shown};
+ghost use Rattle.mls_calls.specs.declared.held.Held.TheVariants.{Nothing};
 
 use crate::done::{Done, Fruit};
 use crate::error::MisuseError;

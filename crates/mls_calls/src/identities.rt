@@ -1,10 +1,10 @@
 //! Calls that tell who a member, a client or a sender is, and where a message belongs.
 
 ghost use Rattle.std.specs.Prelude.{◌≡◌, MatchResult};
-ghost use Rattle.mls_c.specs.Calls.{Does, Makes, TellsMember, conversation_member_at, key_package_identity, make_identity, make_package_identity, make_place, make_sender_identity, member_at, message_place, tells_place};
-ghost use Rattle.mls_c.specs.Given.{text};
-ghost use Rattle.mls_c.specs.Shown.{fruits, shown};
-ghost use Rattle.mls_c.specs.declared.held.Held.TheVariants.{Nothing};
+ghost use Rattle.mls_calls.specs.Calls.{Does, Makes, TellsMember, conversation_member_at, key_package_identity, make_identity, make_package_identity, make_place, make_sender_identity, member_at, message_place, tells_place};
+ghost use Rattle.mls_calls.specs.Given.{text};
+ghost use Rattle.mls_calls.specs.Shown.{fruits, shown};
+ghost use Rattle.mls_calls.specs.declared.held.Held.TheVariants.{Nothing};
 
 use crate::done::{Done, Fruit};
 use crate::given::{Given, copy_of};
