@@ -17,6 +17,7 @@ mod kept_proposals;
 mod listed_proposal;
 mod load;
 mod member;
+mod message_list;
 mod own_proposal;
 mod process;
 mod received_commit;

@@ -1,26 +1,22 @@
-//! The proposals that a commit's message lists.
+//! The proposals that a commit's message lists, and those that a member lacks of them.
 
-ghost use Rattle.std.specs.Prelude.{◌≡◌, ◌≤◌, ◌^◌, map, length, IfOk, IfErr};
+ghost use Rattle.std.specs.Prelude.{◌≡◌, ◌^◌, map, IfOk};
 ghost use Rattle.std.specs.List.{AllByRecursion};
-ghost use Rattle.mls_leaf.specs.Limits.{input_limit};
-ghost use Rattle.mls_leaf.specs.declared.error.LeafError.TheVariants.{Wire as in_wire};
-ghost use Rattle.mls_wire.specs.declared.WireError.TheVariants.{OutOfMemory};
+ghost use Rattle.std.specs.Option.{option_copied};
 ghost use Rattle.mls_tree.specs.Refusals.{RefusesOutright};
 ghost use Rattle.mls_member.specs.Faults.{number_of};
-ghost use Rattle.mls_member.specs.ListedProposals.{Lists, ListsCommit, ListsMessage, commit_proposals, listed_as, proposals_listed, public_message};
-ghost use Rattle.mls_member.specs.Process.{IsListedBelow, IsShortView};
-ghost use Rattle.mls_member.specs.Received.{SpellsList};
+ghost use Rattle.mls_member.specs.ListedProposals.{Lists, ListsReferences, commit_proposals, listed_as, missing_proposals, missing_reference, missing_references, proposals_listed, public_message};
+ghost use Rattle.mls_member.specs.Process.{IsListedBelow};
 
 use crate::error::Refusal;
-use crate::framing::sender_leaf;
 use crate::kept_and_pending::KeptProposal;
 use crate::member::Member;
-use crate::used_proposals::find_proposals;
-use mls_leaf::{Items, LeafError, Proposal};
+use crate::message_list::read_message_list;
+use crate::used_proposals::{find_proposals, kept_under};
+use mls_leaf::{Bytes, Proposal};
 use mls_public_group::Used;
 use mls_suite::Suite;
 use mls_types::ProposalOrRef;
-use mls_view::{ContentView, MessageView, Part, PublicMessageView};
 use std::alloc::{AllocError, Global};
 
 /// A proposal of a commit's list.
@@ -53,20 +49,6 @@ fn copy_used_proposals(alloc: Global, used: &[Used<'_>]) -> Result<Vec<ListedPro
     Ok(copies)
 }
 
-/// The list of proposals that a part of a message spells.
-pub(crate) fn read_list(
-    alloc: Global,
-    proposals: &Part<'_, Items<ProposalOrRef>>,
-) -> Result<Items<ProposalOrRef>, LeafError>
-    requires { length proposals.now ≤ input_limit }
-    ensures list { IfOk result (λ k. SpellsList k proposals.now) }
-    ensures short { IfOk result (AllByRecursion (IsListedBelow (2 ^ 27))) }
-    ensures memory { IfErr result (λ e. e ≡ in_wire OutOfMemory) }
-{
-    let list = proposals.to_owned(alloc)?;
-    Ok(list)
-}
-
 /// The proposals of a commit's list, each with its sender; `UnknownReference` (60) where one that is named isn't kept.
 #[tactic(auto, unfolding(crate::specs::ListedProposals::proposals_listed))]
 fn list_used_proposals(
@@ -83,47 +65,69 @@ fn list_used_proposals(
     Ok(copies)
 }
 
-impl<S: Suite> Member<S> {
-    /// The proposals of a commit that a message shows, with their senders; `UnknownReference` (60) where the member
-    /// doesn't keep one that is named.
-    fn list_of_commit(
-        &self,
-        view: &PublicMessageView<'_>,
-        proposals: &Part<'_, Items<ProposalOrRef>>,
-    ) -> Result<Vec<ListedProposal>, Refusal>
-        requires view { IsShortView view.now }
-        requires proposals { length proposals.now ≤ input_limit }
-        ensures { ListsCommit self.now view.now proposals.now result }
-    {
-        let committer = sender_leaf(&view.content.sender);
-        let list = read_list(self.alloc, proposals)?;
-        list_used_proposals(self.alloc, &self.kept, committer, list.as_slice())
+/// The reference that a commit's list has, where nothing is kept under it.
+fn missing_reference<'a>(kept: &[KeptProposal], listed: &'a ProposalOrRef) -> Option<&'a Bytes>
+    ensures { option_copied result ≡ missing_reference kept.now listed.now }
+{
+    match listed {
+        ProposalOrRef::Proposal(_) => None,
+        ProposalOrRef::Reference(reference) => match kept_under(kept, reference.as_slice()) {
+            Some(_) => None,
+            None => Some(reference),
+        },
     }
+}
 
-    /// The proposals that a message shows, by its content.
-    fn list_of_message(&self, view: &PublicMessageView<'_>) -> Result<Vec<ListedProposal>, Refusal>
-        requires { IsShortView view.now }
-        ensures { ListsMessage self.now view.now result }
-    {
-        match &view.content.content {
-            ContentView::Application(_) => Ok(Vec::new(self.alloc)),
-            ContentView::Proposal(_) => Ok(Vec::new(self.alloc)),
-            ContentView::Commit { proposals, path: _ } => self.list_of_commit(view, proposals),
+/// Copies of the references of a list under which nothing is kept.
+fn copy_missing_references(
+    alloc: Global,
+    kept: &[KeptProposal],
+    list: &[ProposalOrRef],
+) -> Result<Vec<Bytes>, AllocError>
+    ensures { IfOk result (λ v. v.items ≡ missing_references kept.now list.now) }
+{
+    let mut missing = Vec::new(alloc);
+    for listed in list {
+        match missing_reference(kept, listed) {
+            Some(reference) => missing.push(reference.clone()?)?,
+            None => {}
         }
     }
+    Ok(missing)
+}
 
+impl<S: Suite> Member<S> {
     /// The proposals that a commit's message lists, in the list's order, each with its sender: whom it adds, removes
     /// and renews, and which extensions it sets (RFC 9420, 12.4). Nothing of the message is checked: `inspect` says
     /// whether the member would follow it. Faults of decoding, `NotPublicMessage` (41), then `UnknownReference` (60)
     /// where the member doesn't keep a proposal that is named. A message that is no commit lists none.
+    #[tactic(auto, unfolding(crate::specs::ListedProposals::commit_proposals))]
     pub fn commit_proposals(&self, bytes: &[u8]) -> Result<Vec<ListedProposal>, Refusal>
         ensures answer { Lists (commit_proposals self.now bytes.now) result }
         // All but `UnknownReference` (60) come also when an allocation fails.
         ensures outright { RefusesOutright number_of (public_message bytes.now) result }
     {
-        match MessageView::read(bytes)? {
-            MessageView::PublicMessage(view) => self.list_of_message(&view),
-            _ => Err(Refusal::NotPublicMessage),
-        }
+        let list = read_message_list(self.alloc, bytes)?;
+        list_used_proposals(
+            self.alloc,
+            &self.kept,
+            list.sender,
+            list.proposals.as_slice(),
+        )
+    }
+
+    /// The references that a commit's message names, and under which the member keeps no proposal, in the list's order
+    /// (RFC 9420, 12.4): what it has to be sent before it can follow that commit, which it refuses with
+    /// `UnknownReference` (60) till then. Nothing of the message is checked. Faults of decoding, `NotPublicMessage`
+    /// (41). A message that is no commit names none.
+    #[tactic(auto, unfolding(crate::specs::ListedProposals::missing_proposals))]
+    pub fn missing_proposals(&self, bytes: &[u8]) -> Result<Vec<Bytes>, Refusal>
+        ensures answer { ListsReferences (missing_proposals self.now bytes.now) result }
+        // Each refusal comes also when an allocation fails.
+        ensures outright { RefusesOutright number_of (public_message bytes.now) result }
+    {
+        let list = read_message_list(self.alloc, bytes)?;
+        let missing = copy_missing_references(self.alloc, &self.kept, list.proposals.as_slice())?;
+        Ok(missing)
     }
 }

@@ -17,8 +17,8 @@ ghost use Rattle.mls_member.specs.Received.{ChecksCommit, EntersEpoch, FollowsCo
 
 use crate::error::Refusal;
 use crate::framing::sender_leaf;
-use crate::listed_proposal::read_list;
 use crate::member::Member;
+use crate::message_list::read_list;
 use crate::used_proposals::{find_proposals, own_key, removes};
 use mls_commit::{Outcome, change_of_commit};
 use mls_kdf::Secret;
