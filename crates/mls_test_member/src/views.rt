@@ -1,6 +1,7 @@
 //! What a member shows to an application: who is in the group, what it keeps, and kinds of refusals.
 
 use mls_candidate::Candidate;
+use mls_kdf::Secret;
 use mls_leaf::Proposal;
 use mls_member::{KeptCommit, KeptProposal, Member, Refusal, RefusalKind, message_sender};
 use mls_suite::Glass;
@@ -267,5 +268,60 @@ fn readmit(alloc: Global, pair: &mut Pair<Glass>) -> Result<(usize, bool), Refus
 fn who_is_removed_is_added_again(rt: HostRuntime) -> Result<(), Fail> {
     let mut pair = new_pair(rt.alloc())?;
     assert_eq!(rt; readmit(rt.alloc(), &mut pair)?, (0, true));
+    Ok(())
+}
+
+/// Whether a member lists one proposal of a commit, of leaf 1, and lacks none.
+fn lists_all(member: &Member<Glass>, commit: &[u8]) -> Result<bool, Refusal> {
+    let listed = member.commit_proposals(commit)?;
+    let is_of_second = match listed.as_slice() {
+        [one] => one.sender == 1,
+        _ => false,
+    };
+    Ok(is_of_second && member.missing_proposals(commit)?.is_empty())
+}
+
+/// Whether a member lacks the proposal of a commit, by its reference, and so can't list it.
+fn lacks(member: &Member<Glass>, commit: &[u8], reference: &Secret) -> Result<bool, Refusal> {
+    let missing = member.missing_proposals(commit)?;
+    let is_lacking = match missing.as_slice() {
+        [one] => one.as_slice() == reference.as_slice(),
+        _ => false,
+    };
+    let is_refused = match member.commit_proposals(commit) {
+        Ok(_) => false,
+        Err(error) => error.number() == 60,
+    };
+    Ok(is_lacking && is_refused)
+}
+
+/// A member forgets the proposal with this message. Its reference.
+fn forget(member: &mut Member<Glass>, message: &[u8]) -> Result<Option<Secret>, Refusal> {
+    let found = match member.reference_of(message) {
+        Some(reference) => Some(*reference),
+        None => None,
+    };
+    if let Some(reference) = &found {
+        let _had = member.forget_proposal(reference.as_slice())?;
+    }
+    Ok(found)
+}
+
+/// The first commits an update of the second. Whether the second has all that the commit names, until it forgets it.
+fn tell_missing(alloc: Global, pair: &mut Pair<Glass>) -> Result<bool, Refusal> {
+    let update = update(&mut pair.second, 6)?;
+    process(&mut pair.first, &update)?;
+    let kept = kept(alloc, &mut pair.first, 8)?;
+    let has_all = lists_all(&pair.second, &kept.made.commit)?;
+    match forget(&mut pair.second, &update)? {
+        Some(reference) => Ok(has_all && lacks(&pair.second, &kept.made.commit, &reference)?),
+        None => Ok(false),
+    }
+}
+
+#[test]
+fn what_is_missing(rt: HostRuntime) -> Result<(), Fail> {
+    let mut pair = new_pair(rt.alloc())?;
+    assert!(rt; tell_missing(rt.alloc(), &mut pair)?);
     Ok(())
 }
