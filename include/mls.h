@@ -120,6 +120,11 @@ uint32_t mls_member_inspect(mls_member *member, const uint8_t *message, size_t m
  * keeps none with it. */
 uint32_t mls_member_reference(mls_member *member, const uint8_t *message, size_t message_length, mls_bytes **reference);
 
+/* The reference at an index of the proposals that a commit names and the member lacks; null where there are no more. It
+ * refuses the commit (60) until it has taken these. Nothing of the commit is checked. */
+uint32_t mls_member_missing_proposal(mls_member *member, const uint8_t *commit, size_t commit_length, uint64_t index,
+                                     mls_bytes **reference);
+
 /* Forgets the proposal that the member keeps under a reference: 1 there was one, 0 there was none. 67 while a commit is
  * pending. */
 uint32_t mls_member_forget_proposal(mls_member *member, const uint8_t *reference, size_t reference_length, uint64_t *had);

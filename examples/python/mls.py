@@ -227,6 +227,16 @@ class Member(Held):
         """The reference of the proposal that it keeps with a message, or None."""
         return library.bytes("member_reference", self.handle, message)
 
+    def missing_proposals(self, commit):
+        """The references of the proposals that a commit names and it lacks: it refuses the commit (60) until it has taken
+        these."""
+        missing = []
+        while True:
+            reference = library.bytes("member_missing_proposal", self.handle, commit, ctypes.c_uint64(len(missing)))
+            if reference is None:
+                return missing
+            missing.append(reference)
+
     def forget_proposal(self, reference):
         """Forgets the proposal that it keeps under a reference, and answers whether there was one."""
         return bool(library.number("member_forget_proposal", self.handle, reference))

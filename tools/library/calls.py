@@ -61,6 +61,10 @@ def try_kept(alice, bob):
     hold("a forgotten proposal isn't committed", refusal_of(alice.commit, [mls.kept(reference)], seed(7)) == 60)
     hold("a forgotten proposal comes again", alice.process(update) == "proposed")
     commit, _ = alice.commit([mls.kept(reference)], seed(7))
+    lacking = mls.Member.load(bob.save())
+    lacking.forget_proposal(reference)
+    hold("what a commit names", (bob.missing_proposals(commit), lacking.missing_proposals(commit)) == ([], [reference]))
+    hold("what is no message", refusal_of(bob.missing_proposals, b"") == 2)
     hold("nothing is forgotten under a pending commit", refusal_of(alice.forget_proposal, reference) == 67)
     hold("what is refused changes nothing", alice.reference_of(update) == reference)
     return commit

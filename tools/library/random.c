@@ -217,7 +217,7 @@ static uint32_t call_candidate(struct slot on, struct made *made) {
 static uint32_t ask_member(struct slot on, struct made *made) {
     struct text a = any_text(), b = any_text();
     uint64_t told = 0;
-    switch (next(12)) {
+    switch (next(13)) {
     case 0:
         return mls_member_epoch(on.handle, next(4) > 0 ? &told : NULL);
     case 1:
@@ -241,6 +241,8 @@ static uint32_t ask_member(struct slot on, struct made *made) {
     case 10:
         made->slot.kind = MEMBER;
         return mls_member_inspect(on.handle, a.bytes, a.length, &told, (mls_member **)&made->slot.handle);
+    case 11:
+        return mls_member_missing_proposal(on.handle, a.bytes, a.length, number(3), &made->bytes);
     default:
         made->slot.kind = CONVERSATION;
         return mls_conversation_new(on.handle, (mls_conversation **)&made->slot.handle);

@@ -11,7 +11,7 @@ use denote.Steps.{nothing}
 use denote.Enum.Row.{tagged_with}
 use denote.Enum.Enum.{form_of, in_a_row}
 use denote.Enum.Declared.{shape}
-use Rattle.mls_calls.specs.declared.call.Call.TheVariants.{BytesLength, CandidateNew, CandidateKeyPackage, MemberCreate, MemberJoin, MemberEpoch, MemberGroupId, MemberProcess, MemberProposeAdd, MemberProposeUpdate, MemberCommitKept, MemberProposeRemove, MemberDropPending, MemberLeafIndex, BytesAt, RefusalName, CandidateSave, CandidateLoad, MemberSave, MemberLoad, MemberExport, MemberLeafCount, MemberAt, MemberProposeExtensions, ConversationNew, ConversationSeal, ConversationOpen, MemberCommit, MemberInspect, MemberReference, MemberExtensions, KeyPackageIdentity, ConversationMemberAt, MemberForgetProposal, MemberPendingCommit, MessagePlace, ConversationSave, ConversationRestore}
+use Rattle.mls_calls.specs.declared.call.Call.TheVariants.{BytesLength, CandidateNew, CandidateKeyPackage, MemberCreate, MemberJoin, MemberEpoch, MemberGroupId, MemberProcess, MemberProposeAdd, MemberProposeUpdate, MemberCommitKept, MemberProposeRemove, MemberDropPending, MemberLeafIndex, BytesAt, RefusalName, CandidateSave, CandidateLoad, MemberSave, MemberLoad, MemberExport, MemberLeafCount, MemberAt, MemberProposeExtensions, ConversationNew, ConversationSeal, ConversationOpen, MemberCommit, MemberInspect, MemberReference, MemberExtensions, KeyPackageIdentity, ConversationMemberAt, MemberForgetProposal, MemberPendingCommit, MessagePlace, ConversationSave, ConversationRestore, MemberMissingProposal}
 use Rattle.mls_calls.specs.contracts.call.Call as call
 
 pub made_BytesLength : {M : Type 1} {𝓤 : Ura M} (𝓛 : Logic 𝓤) → ent 𝓤 (emp 𝓤) (sem 𝓛 (call.the_row.own_val BytesLength (live 0 (of_list []) ∷ [])))
@@ -203,3 +203,8 @@ pub made_ConversationRestore : {M : Type 1} {𝓤 : Ura M} (𝓛 : Logic 𝓤) �
 made_ConversationRestore 𝓛 = let v : Val = live 37 (of_list []) in
     qed 𝓛 [] ∵ nothing ! $ feq_i ! (List Val) [] [] refl $ fjoin ! $ fpack ! (Valss []) (in_a_row [] (owns [] tt) []) tt $ feq_i ! (List Val) (v ∷ []) (v ∷ []) refl $ fjoin ! $
     fpack ! (List Val) (tagged_with (form_of (shape call.the_type)) (form_of (shape call.the_type)).payload (call.the_type.to ConversationRestore) (v ∷ [])) [] $ done !
+
+pub made_MemberMissingProposal : {M : Type 1} {𝓤 : Ura M} (𝓛 : Logic 𝓤) → ent 𝓤 (emp 𝓤) (sem 𝓛 (call.the_row.own_val MemberMissingProposal (live 38 (of_list []) ∷ [])))
+made_MemberMissingProposal 𝓛 = let v : Val = live 38 (of_list []) in
+    qed 𝓛 [] ∵ nothing ! $ feq_i ! (List Val) [] [] refl $ fjoin ! $ fpack ! (Valss []) (in_a_row [] (owns [] tt) []) tt $ feq_i ! (List Val) (v ∷ []) (v ∷ []) refl $ fjoin ! $
+    fpack ! (List Val) (tagged_with (form_of (shape call.the_type)) (form_of (shape call.the_type)).payload (call.the_type.to MemberMissingProposal) (v ∷ [])) [] $ done !

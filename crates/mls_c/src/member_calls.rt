@@ -3,7 +3,7 @@
 ghost use types.Logic.{sem};
 ghost use Rattle.mls_c.specs.Memory.{Asked, asked_at, answered_at};
 ghost use Rattle.mls_c.specs.Passing.{commits_at, finds_at, follows_at, gives_at, inspects_at, lists_at, loads_at, makes_at, takes_at, tells_at};
-ghost use Rattle.mls_calls.specs.declared.call.Call.TheVariants.{MemberCreate, MemberJoin, MemberEpoch, MemberGroupId, MemberProcess, MemberProposeAdd, MemberProposeUpdate, MemberCommitKept, MemberProposeRemove, MemberDropPending, MemberLeafIndex, MemberSave, MemberLoad, MemberExport, MemberLeafCount, MemberAt, MemberProposeExtensions, MemberCommit, MemberInspect, MemberReference, MemberExtensions, MemberForgetProposal, MemberPendingCommit};
+ghost use Rattle.mls_calls.specs.declared.call.Call.TheVariants.{MemberCreate, MemberJoin, MemberEpoch, MemberGroupId, MemberProcess, MemberProposeAdd, MemberProposeUpdate, MemberCommitKept, MemberProposeRemove, MemberDropPending, MemberLeafIndex, MemberSave, MemberLoad, MemberExport, MemberLeafCount, MemberAt, MemberProposeExtensions, MemberCommit, MemberInspect, MemberReference, MemberExtensions, MemberForgetProposal, MemberMissingProposal, MemberPendingCommit};
 
 use crate::handle::Handle;
 use crate::run::run_call;
@@ -439,6 +439,32 @@ pub unsafe extern "C" fn mls_member_reference(
         MemberReference,
         handle = member,
         first = (message, message_length),
+        made = reference
+    )
+}
+
+/// The reference at an index of those that a commit names and the member lacks, null where there are no more (RFC 9420,
+/// 12.4).
+#[unsafe(no_mangle)]
+pub unsafe extern "C" fn mls_member_missing_proposal(
+    alloc: Global,
+    member: *mut Handle,
+    commit: *const u8,
+    commit_length: usize,
+    index: u64,
+    reference: *mut *mut Handle,
+) -> u32
+    ghost asked: { Asked }
+    requires* memory { sem 𝓛 (asked_at (takes_at member commit commit_length reference) asked) }
+    ensures* memory { sem 𝓛 (answered_at MemberMissingProposal index
+        (takes_at member commit commit_length reference) asked result) }
+{
+    run_call!(
+        alloc,
+        MemberMissingProposal,
+        number = index,
+        handle = member,
+        first = (commit, commit_length),
         made = reference
     )
 }

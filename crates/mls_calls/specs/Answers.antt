@@ -1,10 +1,10 @@
 -- What each call of the library for C does.
 use Rattle.std.specs.Prelude.{ℕ}
-use Rattle.mls_calls.specs.Calls.{Does, SavesHeld, SavesHeldConversation, SpellsHeld, bytes_at, bytes_length, candidate_key_package, candidate_load, candidate_new, candidate_save, conversation_member_at, conversation_new, conversation_open, conversation_restore, conversation_seal, key_package_identity, member_at, member_commit, member_commit_kept, member_create, member_drop_pending, member_epoch, member_export, member_forget_proposal, member_group_id, member_inspect, member_join, member_leaf_count, member_leaf_index, member_load, member_pending_commit, member_process, member_propose_add, member_propose_extensions, member_propose_remove, member_propose_update, member_reference, message_place, refusal_name_of}
+use Rattle.mls_calls.specs.Calls.{Does, SavesHeld, SavesHeldConversation, SpellsHeld, bytes_at, bytes_length, candidate_key_package, candidate_load, candidate_new, candidate_save, conversation_member_at, conversation_new, conversation_open, conversation_restore, conversation_seal, key_package_identity, member_at, member_commit, member_commit_kept, member_create, member_drop_pending, member_epoch, member_export, member_forget_proposal, member_group_id, member_inspect, member_join, member_leaf_count, member_leaf_index, member_load, member_missing_proposal, member_pending_commit, member_process, member_propose_add, member_propose_extensions, member_propose_remove, member_propose_update, member_reference, message_place, refusal_name_of}
 use Rattle.mls_calls.specs.Given.{Text}
 use Rattle.mls_calls.specs.Shown.{Shown}
 use Rattle.mls_calls.specs.declared.call.Call.{Call}
-use Rattle.mls_calls.specs.declared.call.Call.TheVariants.{BytesLength, CandidateNew, CandidateKeyPackage, MemberCreate, MemberJoin, MemberEpoch, MemberGroupId, MemberProcess, MemberProposeAdd, MemberProposeUpdate, MemberCommitKept, MemberProposeRemove, MemberDropPending, MemberLeafIndex, BytesAt, RefusalName, CandidateSave, CandidateLoad, MemberSave, MemberLoad, MemberExport, MemberLeafCount, MemberAt, MemberProposeExtensions, ConversationNew, ConversationSeal, ConversationOpen, MemberCommit, MemberInspect, MemberReference, MemberExtensions, KeyPackageIdentity, ConversationMemberAt, MemberForgetProposal, MemberPendingCommit, MessagePlace, ConversationSave, ConversationRestore}
+use Rattle.mls_calls.specs.declared.call.Call.TheVariants.{BytesLength, CandidateNew, CandidateKeyPackage, MemberCreate, MemberJoin, MemberEpoch, MemberGroupId, MemberProcess, MemberProposeAdd, MemberProposeUpdate, MemberCommitKept, MemberProposeRemove, MemberDropPending, MemberLeafIndex, BytesAt, RefusalName, CandidateSave, CandidateLoad, MemberSave, MemberLoad, MemberExport, MemberLeafCount, MemberAt, MemberProposeExtensions, ConversationNew, ConversationSeal, ConversationOpen, MemberCommit, MemberInspect, MemberReference, MemberExtensions, KeyPackageIdentity, ConversationMemberAt, MemberForgetProposal, MemberPendingCommit, MessagePlace, ConversationSave, ConversationRestore, MemberMissingProposal}
 use Rattle.mls_calls.specs.declared.done.Done.{Done}
 
 -- a call does what its definition says, given a number, what its handle holds, and three texts
@@ -74,3 +74,5 @@ DoesCall MessagePlace number held first second third done =
 DoesCall ConversationSave number held first second third done = SavesHeldConversation held done
 DoesCall ConversationRestore number held first second third done =
     Does (conversation_restore held first) held done
+DoesCall MemberMissingProposal number held first second third done =
+    Does (member_missing_proposal held first number) held done

@@ -1,5 +1,5 @@
 -- What each call of the library for C does: what it makes, with what its handle holds then.
-use Rattle.std.specs.Prelude.{◌≡◌, ◌≢◌, ℕ, ◌&&◌, List, length, Option, None, Some, option_map, Result, Ok, Err, MatchResult, if◌then◌else◌, nat_eq, nat_lt, not, get_or, is_some, ◌^◌}
+use Rattle.std.specs.Prelude.{◌≡◌, ◌≢◌, ℕ, ◌&&◌, List, length, Option, None, Some, option_map, Result, Ok, Err, MatchResult, if◌then◌else◌, nat_eq, nat_lt, not, get_or, slice_get, is_some, ◌^◌}
 use Rattle.std.specs.Str.{is_utf8}
 use Rattle.mls_wire.specs.Checks.{DoesAs, Answers, require_some}
 use Rattle.mls_wire.specs.Combine.{vector}
@@ -39,6 +39,7 @@ use Rattle.mls_member.specs.Answers.{pending_message}
 use Rattle.mls_member.specs.GroupMembers.{group_member}
 use Rattle.mls_member.specs.KeptProposals.{kept_reference, without_kept}
 use Rattle.mls_member.specs.KeptTogether.{kept_list}
+use Rattle.mls_member.specs.ListedProposals.{missing_proposals}
 use Rattle.mls_member.specs.Saved.{saved_of, load, FitsInput}
 use Rattle.mls_calls.specs.Faults.{number_of}
 use Rattle.mls_calls.specs.Given.{Text}
@@ -308,6 +309,16 @@ make_reference held given =
 
 unfoldable pub member_reference : Shown → Text → Answer
 member_reference held given = make_reference held given >>= λ x. Ok (x, held)
+
+-- the reference at an index of those that a commit names and the member lacks, if there is one
+unfoldable pub make_missing_proposal : Shown → Text → ℕ → Result Fruits ℕ
+make_missing_proposal held given index =
+    a_member held >>= λ m. given >>= λ xs. missing_proposals m xs
+    >>= λ missing. Ok (makes_if (slice_get missing index))
+
+unfoldable pub member_missing_proposal : Shown → Text → ℕ → Answer
+member_missing_proposal held given index =
+    make_missing_proposal held given index >>= λ x. Ok (x, held)
 
 -- the message of its pending commit, if it has one
 unfoldable pub make_pending_commit : Shown → Result Fruits ℕ

@@ -79,4 +79,6 @@ pub enum Call {
     ConversationSave,
     /// A conversation goes on as the one that was saved so.
     ConversationRestore,
+    /// The reference at an index of those that a commit names and a member lacks.
+    MemberMissingProposal,
 }

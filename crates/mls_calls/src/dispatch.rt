@@ -68,5 +68,6 @@ pub fn do_call(
         Call::MessagePlace => identities::message_place(alloc, held, &first),
         Call::ConversationSave => saved::conversation_save(alloc, held),
         Call::ConversationRestore => saved::conversation_restore(held, &first),
+        Call::MemberMissingProposal => seen::member_missing_proposal(alloc, held, &first, number),
     }
 }

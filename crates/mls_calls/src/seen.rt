@@ -3,7 +3,7 @@
 ghost use Rattle.std.specs.Prelude.{◌≡◌, ◌≤◌, MatchResult, length};
 ghost use Rattle.mls_kdf.specs.Kdf.{max_output};
 ghost use Rattle.mls_schedule.specs.Epoch.{export_secret};
-ghost use Rattle.mls_calls.specs.Calls.{Does, Makes, SpellsExtensions, SpellsHeld, SpellsIfMember, a_member, make_export, make_pending_commit, make_reference, member_export, member_leaf_count, member_pending_commit, member_reference};
+ghost use Rattle.mls_calls.specs.Calls.{Does, Makes, SpellsExtensions, SpellsHeld, SpellsIfMember, a_member, make_export, make_missing_proposal, make_pending_commit, make_reference, member_export, member_leaf_count, member_missing_proposal, member_pending_commit, member_reference};
 ghost use Rattle.mls_calls.specs.Given.{text};
 ghost use Rattle.mls_calls.specs.Shown.{shown};
 ghost use Rattle.mls_calls.specs.declared.held.Held.TheVariants.{Nothing};
@@ -141,6 +141,39 @@ pub(crate) fn member_reference(alloc: Global, held: Held, message: &Given) -> Do
     ensures stays { held ≡ Nothing → result.held ≡ Nothing }
 {
     let outcome = make_reference(alloc, &held, message);
+    Done { held, outcome }
+}
+
+/// The reference at an index of those that a commit names and a handle's member lacks, in a handle, if there is one.
+#[tactic(auto, unfolding(crate::specs::Calls::make_missing_proposal))]
+fn make_missing_proposal(
+    alloc: Global,
+    held: &Held,
+    commit: &Given,
+    index: u64,
+) -> Result<Fruit, u32>
+    ensures { Makes (make_missing_proposal (shown held.now) (text commit.now) index) result }
+{
+    let member = member_of(held)?;
+    let commit = bytes_in(commit)?;
+    let missing = match member.missing_proposals(commit) {
+        Ok(missing) => missing,
+        Err(error) => return Err(error.number() as u32),
+    };
+    match missing.get(index as usize) {
+        Some(reference) => fill_copy(alloc, reference.as_slice()),
+        None => Ok(number(0)),
+    }
+}
+
+/// The reference at an index of those that a commit names and a member lacks (RFC 9420, 12.4).
+#[tactic(auto, unfolding(crate::specs::Calls::member_missing_proposal))]
+pub(crate) fn member_missing_proposal(alloc: Global, held: Held, commit: &Given, index: u64) -> Done
+    ensures does { Does (member_missing_proposal (shown held) (text commit.now) index)
+        (shown held) result }
+    ensures stays { held ≡ Nothing → result.held ≡ Nothing }
+{
+    let outcome = make_missing_proposal(alloc, &held, commit, index);
     Done { held, outcome }
 }
 
