@@ -17,7 +17,6 @@ use Rattle.mls_types.specs.GroupInfo.{group_info, group_info_extensions, group_i
 use Rattle.mls_types.specs.Message.{mls_message}
 use Rattle.mls_types.specs.declared.group_context.GroupContext.{GroupContext}
 use Rattle.mls_types.specs.declared.group_info.GroupInfo.{GroupInfo}
-use Rattle.mls_types.specs.declared.message.MlsMessage.{MlsMessage}
 use Rattle.mls_types.specs.declared.message.MlsMessage.TheVariants as message
 use Rattle.mls_checks.specs.Short.{IsShort}
 use Rattle.mls_tree_model.specs.Term.{Term}

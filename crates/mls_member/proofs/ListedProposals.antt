@@ -1,12 +1,15 @@
 -- The list that a message has, by a view of it, and the references of a list under which nothing is kept.
 use Rattle.std.proofs.Common.{◌≡◌, ℕ, ◌+◌, ◌<◌, ◌≤◌, List, [], ◌∷◌, ◌++◌, length, drop, filter_map, get_or, Option, Some, None, Result, Ok, Err, refl, sym, ap, subst, ◌∙◌, append_assoc}
-use Rattle.std.specs.Prelude.{◌≢◌}
+use Rattle.std.specs.Prelude.{◌≢◌, IfOk, IfErr}
 use Rattle.std.specs.List.{cons_option}
 use Rattle.std.proofs.lemmas.List.{append-nil, drop_all}
 use Rattle.mls_wire.specs.Combine.{vector}
 use Rattle.mls_wire.specs.Whole.{whole}
+use Rattle.mls_wire.specs.declared.WireError.TheVariants.{OutOfMemory}
 use Rattle.mls_leaf.proofs.WholeLaws.{spells_same}
 use Rattle.mls_leaf.specs.Limits.{input_limit}
+use Rattle.mls_leaf.specs.declared.error.LeafError.{LeafError}
+use Rattle.mls_leaf.specs.declared.error.LeafError.TheVariants.{Wire as in_wire}
 use Rattle.mls_types.specs.Commit.{proposal_or_ref, proposal_or_ref_nonempty}
 use Rattle.mls_types.specs.Message.{mls_message}
 use Rattle.mls_types.specs.SignedParts.{content_of_body}
@@ -24,7 +27,7 @@ use Rattle.mls_view.specs.Shown.{Shows, ShowsContent}
 use Rattle.mls_view.specs.Views.{LendsAll}
 use Rattle.mls_model.specs.Messages.{decode_message}
 use Rattle.mls_public_group.proofs.Rest.{here}
-use Rattle.mls_member.specs.ListedProposals.{ReadsList, ReadsShownList, listed_in, message_list, public_message}
+use Rattle.mls_member.specs.ListedProposals.{ReadsContentList, ReadsList, ReadsShownList, listed_in, message_list, public_message}
 use Rattle.mls_member.specs.Received.{SpellsList}
 use Rattle.mls_member.specs.declared.error.Refusal.{Refusal}
 use Rattle.mls_member.specs.declared.message_list.MessageList.{MessageList}
@@ -42,11 +45,15 @@ proposal_lists (body_of.Application t) view part is shows = refl
 proposal_lists (body_of.Proposal p) view part is shows = refl
 proposal_lists (body_of.Commit k tag) view part is shows = absurd (subst (λ (x : ContentView). ShowsContent x (content_of_body (body_of.Commit k tag))) is shows)
 
-pub commit_lists : (body : SignedBody) (view : ContentView) (part path : List ℕ) (mine : List ProposalOrRef) → view ≡ view_of.Commit part path → ShowsContent view (content_of_body body) → SpellsList mine part → mine ≡ listed_in body
+commit_lists : (body : SignedBody) (view : ContentView) (part path : List ℕ) (mine : List ProposalOrRef) → view ≡ view_of.Commit part path → ShowsContent view (content_of_body body) → SpellsList mine part → mine ≡ listed_in body
 commit_lists (body_of.Application t) view part path mine is shows spells = absurd (subst (λ (x : ContentView). ShowsContent x (content_of_body (body_of.Application t))) is shows)
 commit_lists (body_of.Proposal p) view part path mine is shows spells = absurd (subst (λ (x : ContentView). ShowsContent x (content_of_body (body_of.Proposal p))) is shows)
 commit_lists (body_of.Commit k tag) view part path mine is shows spells =
     spells_same (vector proposal_or_ref proposal_or_ref_nonempty) mine k.proposals part spells (subst (λ (x : ContentView). ShowsContent x (content_of_body (body_of.Commit k tag))) is shows).0
+
+pub commit_reads : (view : ContentView) (part path : List ℕ) (result : Result (List ProposalOrRef) LeafError) → view ≡ view_of.Commit part path → IfOk result (λ k. SpellsList k part) → IfErr result (λ e. e ≡ in_wire OutOfMemory) → ReadsContentList view result
+commit_reads view part path (Ok k) is spells memory = λ body shows. commit_lists body view part path k is shows spells
+commit_reads view part path (Err e) is spells memory = memory
 
 -- ---- bytes
 
