@@ -31,12 +31,11 @@ fn saved_proposal(alloc: Global, kept: &KeptProposal) -> Result<SavedProposal, A
 {
     let reference = saved_secret(alloc, &kept.reference)?;
     let message = Bytes::from_vec(Vec::from_slice(alloc, &kept.message)?);
-    let proposal = kept.proposal.clone()?;
     let own_key = optional_saved_secret(alloc, &kept.own_key)?;
     Ok(SavedProposal {
         reference,
         message,
-        proposal,
+        proposal: kept.proposal.clone()?,
         sender: kept.sender,
         own_key,
     })
