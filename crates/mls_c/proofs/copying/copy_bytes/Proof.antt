@@ -43,8 +43,8 @@ use Rattle.mls_c.specs.contracts.pointer.swap_held as swap_held
 use Rattle.mls_c.proofs.pointer.swap_held.Met as swap_held_thm
 use Rattle.mls_c.specs.contracts.pointer.let_go as lets
 use Rattle.mls_c.proofs.pointer.let_go.Met as lets_thm
-use Rattle.mls_calls.specs.contracts.copying.copy_out as out
-use Rattle.mls_calls.proofs.copying.copy_out.Met as out_thm
+use Rattle.mls_calls.specs.contracts.copy_out as out
+use Rattle.mls_calls.proofs.copy_out.Met as out_thm
 use Rattle.mls_c.specs.contracts.copying.copy_bytes as f
 use Rattle.mls_c.proofs.copying.copy_bytes.Statement.{statement}
 use Rattle.mls_c.proofs.copying.copy_bytes.Code as code
@@ -84,7 +84,7 @@ copy_bytes_spec 𝓤 𝓛 𝓜 𝓡 wired =
     let Outs = triple_of 𝓛 out.signature (out.spec 𝓛 𝓜.mem 𝓡.returns) in
     let z₃ : Outs.Ghost = (((κ, tt), (q, tt), tt, (x, (buf, tt)), (v₂ ∷ [], (slice ∷ [], tt))), tt) in
     move ! (2 ∷ []) $ nothing ! $ move ! (1 ∷ 0 ∷ []) $ fjoin ! $ move ! (1 ∷ 0 ∷ []) $ fjoin ! $ nothing ! $ move ! (3 ∷ 0 ∷ []) $ join ! $ join ! $ nothing ! $ move ! (1 ∷ 0 ∷ []) $ join ! $ use1 𝓛 (raw (Outs.pre z₃)) (id⊢ 𝓤 _) $
-    calls_at ! fm Outs (out_thm.met 𝓤 𝓛 𝓜 𝓡 (code.calls-mls_calls::copying::copy_out 𝓡.env wired)) z₃ (and_then ! (get ! refl) (and_then ! (get ! refl) (no_more !))) (λ v₃.
+    calls_at ! fm Outs (out_thm.met 𝓤 𝓛 𝓜 𝓡 (code.calls-mls_calls::copy_out 𝓡.env wired)) z₃ (and_then ! (get ! refl) (and_then ! (get ! refl) (no_more !))) (λ v₃.
     use1 𝓛 (later (some (λ (d : CopyValue). ((‵ (flft κ q) ⊛ ‵ ftrue) ⊛ ‵ (copy_outcome.the_row.own_val d (v₃ ∷ []))) ⊛ some (λ (ws : Lasts out.ended (κ, tt) (x, (buf, tt))). ‵ (lasts out.ended (κ, tt) (x, (buf, tt)) ws) ⊛ raw (fact 𝓤 (d.held ≡ x)) ⊛ raw (fact 𝓤 (Copies (shown x) buf.now ws.1.0 d.answer)))))) (id⊢ 𝓤 _) $
     await ! tt $ pick ! (λ d. split ! $ split ! $ split ! $ move ! (1 ∷ []) $ drop ! $ move ! (2 ∷ []) $ pick ! (λ ws. split3 ! $ move ! (1 ∷ 2 ∷ []) $ heard ! (d.held ≡ x) (λ kept. heard ! (Copies (shown x) buf.now ws.1.0 d.answer) (λ copies.
     -- [the last value; the token; what is left; the handle]

@@ -49,12 +49,12 @@ use Rattle.mls_calls.specs.Given.{IsCopy, IsNone}
 use Rattle.mls_calls.specs.contracts.given.Given as given
 use Rattle.mls_calls.proofs.given.Given.TheLaws as given_laws
 use Rattle.mls_c.proofs.Rows.{typed, comes, holds}
-use Rattle.mls_calls.specs.contracts.given.bytes_of as of
-use Rattle.mls_calls.proofs.given.bytes_of.Symbol.{name as #bytes-of}
-use Rattle.mls_calls.proofs.given.bytes_of.Met as of_thm
-use Rattle.mls_calls.specs.contracts.given.no_bytes as no
-use Rattle.mls_calls.proofs.given.no_bytes.Symbol.{name as #no-bytes}
-use Rattle.mls_calls.proofs.given.no_bytes.Met as no_thm
+use Rattle.mls_calls.specs.contracts.bytes_of as of
+use Rattle.mls_calls.proofs.bytes_of.Symbol.{name as #bytes-of}
+use Rattle.mls_calls.proofs.bytes_of.Met as of_thm
+use Rattle.mls_calls.specs.contracts.no_bytes as no
+use Rattle.mls_calls.proofs.no_bytes.Symbol.{name as #no-bytes}
+use Rattle.mls_calls.proofs.no_bytes.Met as no_thm
 use Rattle.mls_c.specs.contracts.pointer.copy_at as f
 use Rattle.mls_c.proofs.pointer.copy_at.Statement.{statement}
 use Rattle.mls_c.proofs.pointer.copy_at.Code as code
@@ -166,5 +166,5 @@ copy_at_spec 𝓤 𝓛 𝓜 𝓡 wired =
     proved 𝓛 f.ended stayed c 𝓜 𝓡 (Goes-dropped 𝓛 0 (plain (λ _. heap.the_row)) yes (λ κs x w. refl), (Goes-dropped 𝓛 0 (plain (λ _. RawPtr)) yes (λ κs x w. refl), (Goes-dropped 𝓛 0 (plain (λ _. usize)) yes (λ κs x w. refl), tt)))
     f.Key.name code.function (code.unfolded 𝓤 H 𝓜 𝓡 wired)
     (λ κs. ((λ x. heap_laws.the_told.val x ∷ []), (rawptr_vals, (uint_vals w64, tt)))) (λ κs. (heap_laws.the_told.tells, (rawptr_Tells, (uint_Tells w64, tt)))) (λ κs qs bounds a g are.
-    at_each 𝓛 𝓜.mem 𝓡.returns 𝓣.C 𝓣.Λ (framed 𝓤 H 𝓜 𝓣) (of_thm.met 𝓤 𝓛 𝓜 𝓡 (code.calls-mls_calls::given::bytes_of 𝓡.env wired)) (no_thm.met 𝓤 𝓛 𝓜 𝓡 (code.calls-mls_calls::given::no_bytes 𝓡.env wired))
+    at_each 𝓛 𝓜.mem 𝓡.returns 𝓣.C 𝓣.Λ (framed 𝓤 H 𝓜 𝓣) (of_thm.met 𝓤 𝓛 𝓜 𝓡 (code.calls-mls_calls::bytes_of 𝓡.env wired)) (no_thm.met 𝓤 𝓛 𝓜 𝓡 (code.calls-mls_calls::no_bytes 𝓡.env wired))
     a.0 (heap_laws.the_told.val a.0) ((heap_laws.the_row_laws.lawful 𝓛).typed a.0 (heap_laws.the_told.val a.0 ∷ []) are.0).0 g.0 g.1 a.1.0 a.1.1.0 are.1.1.0.1)

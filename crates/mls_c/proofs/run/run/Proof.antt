@@ -57,10 +57,10 @@ use Rattle.mls_c.specs.contracts.pointer.put_handle as puts
 use Rattle.mls_c.proofs.pointer.put_handle.Met as puts_thm
 use Rattle.mls_c.specs.contracts.pointer.put_number as numbers
 use Rattle.mls_c.proofs.pointer.put_number.Met as numbers_thm
-use Rattle.mls_calls.specs.contracts.dispatch.do_call as answers
-use Rattle.mls_calls.proofs.dispatch.do_call.Met as answers_thm
-use Rattle.mls_calls.specs.contracts.done.parts_of as parts_of
-use Rattle.mls_calls.proofs.done.parts_of.Met as parts_of_thm
+use Rattle.mls_calls.specs.contracts.do_call as answers
+use Rattle.mls_calls.proofs.do_call.Met as answers_thm
+use Rattle.mls_calls.specs.contracts.parts_of as parts_of
+use Rattle.mls_calls.proofs.parts_of.Met as parts_of_thm
 use Rattle.mls_c.specs.contracts.run.run as f
 use Rattle.mls_c.proofs.run.run.Statement.{statement}
 use Rattle.mls_c.proofs.run.run.Code as code
@@ -129,7 +129,7 @@ run_spec 𝓤 𝓛 𝓜 𝓡 wired =
     let Says = triple_of 𝓛 answers.signature (answers.spec 𝓛 𝓜.mem 𝓡.returns) in
     let z₆ : Says.Ghost = ((tt, tt, tt, (a, (which, (number, (asked.held, (r₁, (r₂, (r₃, tt))))))), (heap_word a ∷ [], (call_word which ∷ [], (vint w64 number ∷ [], (v₅ ∷ [], (v₁ ∷ [], (v₂ ∷ [], (v₃ ∷ [], tt)))))))), tt) in
     move ! (2 ∷ []) $ nothing ! $ move ! (1 ∷ 0 ∷ []) $ fjoin ! $ move ! (4 ∷ 0 ∷ []) $ fjoin ! $ move ! (5 ∷ 0 ∷ []) $ fjoin ! $ move ! (1 ∷ 0 ∷ []) $ fjoin ! $ owned ! u64 (Is u64) (uint_Makes 𝓛 w64) number (vint w64 number ∷ []) (refl, are.1.1.0.1) $ fjoin ! $ move ! (11 ∷ 0 ∷ []) $ fjoin ! $ move ! (5 ∷ 0 ∷ []) $ fjoin ! $ nothing ! $ join ! $ nothing ! $ move ! (1 ∷ 0 ∷ []) $ join ! $ use1 𝓛 (raw (Says.pre z₆)) (id⊢ 𝓤 _) $
-    calls_at ! fm Says (answers_thm.met 𝓤 𝓛 𝓜 𝓡 (code.calls-mls_calls::dispatch::do_call 𝓡.env wired)) z₆ (and_then ! (get ! refl) (and_then ! (get ! refl) (and_then ! (get ! refl) (and_then ! (get ! refl) (and_then ! (get ! refl) (and_then ! (get ! refl) (and_then ! (get ! refl) (no_more !)))))))) (λ v₆. comes ! tt answers.ended (answers.clauses 𝓛 𝓜.mem 𝓡.returns) z₆ v₆ (λ d ws₆. move ! (1 ∷ []) $
+    calls_at ! fm Says (answers_thm.met 𝓤 𝓛 𝓜 𝓡 (code.calls-mls_calls::do_call 𝓡.env wired)) z₆ (and_then ! (get ! refl) (and_then ! (get ! refl) (and_then ! (get ! refl) (and_then ! (get ! refl) (and_then ! (get ! refl) (and_then ! (get ! refl) (and_then ! (get ! refl) (no_more !)))))))) (λ v₆. comes ! tt answers.ended (answers.clauses 𝓛 𝓜.mem 𝓡.returns) z₆ v₆ (λ d ws₆. move ! (1 ∷ []) $
     use1 𝓛 (raw (fact 𝓤 (DoesCall which number (shown asked.held) (given_bytes r₁.bytes) (given_bytes r₂.bytes) (given_bytes r₃.bytes) d)) ⊛ raw (fact 𝓤 (asked.held ≡ Nothing → d.held ≡ Nothing))) (id⊢ 𝓤 _) $ split ! $ heard ! (DoesCall which number (shown asked.held) (given_bytes r₁.bytes) (given_bytes r₂.bytes) (given_bytes r₃.bytes) d) (λ does. heard ! (asked.held ≡ Nothing → d.held ≡ Nothing) (λ stays.
     typed done.the_row (done_laws.the_row_laws.lawful 𝓛) ! d v₆ (λ ok₆. done_apart ! d (v₆ ∷ []) (λ u₁ u₂ is₆ good₁ good₂. lands_as ! (ap only is₆) refl ((subst (Typed done.the_row.mir) is₆ ok₆).0) $
     sets ! (of_opd ! (get_in ! (fld ! refl (stop !)) (sub ! 0 refl (whole !)))) refl good₁ $ sets ! (of_opd ! (get_in ! (fld ! refl (stop !)) (sub ! 1 refl (whole !)))) refl good₂ $
@@ -148,7 +148,7 @@ run_spec 𝓤 𝓛 𝓜 𝓡 wired =
     sets ! (of_opd ! (get ! refl)) refl good₂ $
     let Partings = triple_of 𝓛 parts_of.signature (parts_of.spec 𝓛 𝓜.mem 𝓡.returns) in let z₉ : Partings.Ghost = ((tt, tt, tt, (d.outcome, tt), (u₂ ∷ [], tt)), tt) in
     move ! (1 ∷ []) $ nothing ! $ move ! (1 ∷ 0 ∷ []) $ fjoin ! $ nothing ! $ join ! $ nothing ! $ move ! (1 ∷ 0 ∷ []) $ join ! $ use1 𝓛 (raw (Partings.pre z₉)) (id⊢ 𝓤 _) $
-    calls_at ! fm Partings (parts_of_thm.met 𝓤 𝓛 𝓜 𝓡 (code.calls-mls_calls::done::parts_of 𝓡.env wired)) z₉ (and_then ! (get ! refl) (no_more !)) (λ v₉. comes ! tt parts_of.ended (parts_of.clauses 𝓛 𝓜.mem 𝓡.returns) z₉ v₉ (λ g ws₉. move ! (1 ∷ []) $
+    calls_at ! fm Partings (parts_of_thm.met 𝓤 𝓛 𝓜 𝓡 (code.calls-mls_calls::parts_of 𝓡.env wired)) z₉ (and_then ! (get ! refl) (no_more !)) (λ v₉. comes ! tt parts_of.ended (parts_of.clauses 𝓛 𝓜.mem 𝓡.returns) z₉ v₉ (λ g ws₉. move ! (1 ∷ []) $
     use1 𝓛 (raw (fact 𝓤 (ArePartsOf d.outcome g))) (id⊢ 𝓤 _) $ heard ! (ArePartsOf d.outcome g) (λ parts₉.
     typed parts.the_row (parts_laws.the_row_laws.lawful 𝓛) ! g v₉ (λ ok₉. parts_apart ! g (v₉ ∷ []) (λ w₁ w₂ is₉ good₃ good₄ low₁ low₂. lands_as ! (ap only is₉) refl ((subst (Typed parts.the_row.mir) is₉ ok₉).0) $
     sets ! (of_opd ! (get_in ! (fld ! refl (stop !)) (sub ! 0 refl (whole !)))) refl good₃ $ sets ! (of_opd ! (get_in ! (fld ! refl (stop !)) (sub ! 1 refl (whole !)))) refl good₄ $
