@@ -120,8 +120,8 @@ uint32_t mls_member_inspect(mls_member *member, const uint8_t *message, size_t m
  * keeps none with it. */
 uint32_t mls_member_reference(mls_member *member, const uint8_t *message, size_t message_length, mls_bytes **reference);
 
-/* The reference at an index of the proposals that a commit names and the member lacks; null where there are no more. It
- * refuses the commit (60) until it has taken these. Nothing of the commit is checked. */
+/* The reference at an index of the proposals that a commit names and the member lacks; null where there are no more.
+ * The member refuses the commit (60) until it has taken these. Nothing of the commit is checked. */
 uint32_t mls_member_missing_proposal(mls_member *member, const uint8_t *commit, size_t commit_length, uint64_t index,
                                      mls_bytes **reference);
 
