@@ -4,8 +4,9 @@ tools/build-library leaves.
     python3 examples/python/mls.py         the life of a group of two
 
 The environment's MLS_LIBRARY may name another library. A call that the library refuses raises Refused, whose `number`
-docs/REFUSALS.md explains; the member or candidate is then as it was. A seed is 32 random bytes, used once. Calls hold the
-interpreter's lock, so no two run at once.
+docs/REFUSALS.md explains, or MemoryError where that would be 1; the member or candidate is then as it was. A number that
+isn't from 0 to 2^64 - 1 raises OverflowError. A seed is 32 random bytes, used once. Calls hold the interpreter's lock, so
+no two run at once.
 """
 import ctypes
 import os
@@ -18,6 +19,13 @@ EFFECTS = {1: "proposed", 2: "known", 3: "advanced", 4: "removed"}
 PLAIN = (ctypes.c_uint64, ctypes.c_size_t, ctypes.c_void_p, ctypes.Array, type(ctypes.byref(ctypes.c_uint64())))
 
 
+def uint64(value):
+    """A number as a call takes it. ctypes alone would take 2^64 for 0, and -1 for 2^64 - 1."""
+    if not 0 <= value < 1 << 64:
+        raise OverflowError(f"{value} isn't a number from 0 to 2^64 - 1")
+    return ctypes.c_uint64(value)
+
+
 class Refused(Exception):
     """A call was refused."""
 
@@ -27,7 +35,7 @@ class Refused(Exception):
 
     @property
     def name(self):
-        return library.bytes("refusal_name", ctypes.c_uint64(self.number)).decode()
+        return library.bytes("refusal_name", uint64(self.number)).decode()
 
 
 class Library:
@@ -194,7 +202,7 @@ class Member(Held):
         """The members of its group: leaf, identity and signature key of each."""
         for leaf in range(library.number("member_leaf_count", self.handle)):
             try:
-                yield (leaf, *library.two("member_at", self.handle, ctypes.c_uint64(leaf)))
+                yield (leaf, *library.two("member_at", self.handle, uint64(leaf)))
             except Refused as refused:
                 if refused.number != 22:
                     raise
@@ -206,7 +214,7 @@ class Member(Held):
 
     def export(self, label, context, length):
         """A secret of its epoch, under a label and a context."""
-        return library.bytes("member_export", self.handle, label.encode(), context, ctypes.c_uint64(length))
+        return library.bytes("member_export", self.handle, label.encode(), context, uint64(length))
 
     def conversation(self):
         """What it seals and opens application messages of its epoch with. Only one an epoch may seal, so it is kept; that
@@ -227,15 +235,17 @@ class Member(Held):
         """The reference of the proposal that it keeps with a message, or None."""
         return library.bytes("member_reference", self.handle, message)
 
-    def missing_proposals(self, commit):
-        """The references of the proposals that a commit names and it lacks: it refuses the commit (60) until it has taken
-        these."""
+    def missing_proposals(self, commit, most=1000):
+        """The references of the proposals that a commit names and it lacks: until it has taken these it refuses the commit,
+        unless this is its own. So many at most are asked for, since the library reads the whole commit again for each: of a
+        commit of very many, which anybody may send, all would take a time that grows with their square."""
         missing = []
-        while True:
-            reference = library.bytes("member_missing_proposal", self.handle, commit, ctypes.c_uint64(len(missing)))
+        while len(missing) < most:
+            reference = library.bytes("member_missing_proposal", self.handle, commit, uint64(len(missing)))
             if reference is None:
-                return missing
+                break
             missing.append(reference)
+        return missing
 
     def forget_proposal(self, reference):
         """Forgets the proposal that it keeps under a reference, and answers whether there was one."""
@@ -251,7 +261,7 @@ class Member(Held):
 
     def propose_remove(self, leaf):
         """A message that proposes to remove a leaf."""
-        return library.bytes("member_propose_remove", self.handle, ctypes.c_uint64(leaf))
+        return library.bytes("member_propose_remove", self.handle, uint64(leaf))
 
     def propose_extensions(self, extensions):
         """A message that proposes that the group carry the extensions that bytes spell, with their length."""
@@ -273,11 +283,11 @@ class Member(Held):
     def commit(self, proposals, seed, path=True):
         """The messages of a commit of a list of proposals: the commit, and the Welcome or None."""
         listed = vector(b"".join(proposals))
-        return library.two("member_commit", self.handle, listed, ctypes.c_uint64(path), seed)
+        return library.two("member_commit", self.handle, listed, uint64(path), seed)
 
     def commit_kept(self, seed, path=True):
         """The messages of a commit of what it keeps: the commit, and the Welcome or None."""
-        return library.two("member_commit_kept", self.handle, ctypes.c_uint64(path), seed)
+        return library.two("member_commit_kept", self.handle, uint64(path), seed)
 
 
 class Conversation(Held):
@@ -285,7 +295,7 @@ class Conversation(Held):
 
     def seal(self, data, seed, authenticated=b"", padding=0):
         """A sealed message of application data, and of authenticated data that isn't encrypted."""
-        return library.bytes("conversation_seal", self.handle, data, authenticated, ctypes.c_uint64(padding), seed)
+        return library.bytes("conversation_seal", self.handle, data, authenticated, uint64(padding), seed)
 
     def open(self, message):
         """The data and the authenticated data of a message, and its sender's leaf."""
@@ -294,7 +304,7 @@ class Conversation(Held):
 
     def member_at(self, leaf):
         """The identity and the signature key of the member at a leaf, in this epoch."""
-        return library.two("conversation_member_at", self.handle, ctypes.c_uint64(leaf))
+        return library.two("conversation_member_at", self.handle, uint64(leaf))
 
     def save(self):
         """The bytes that it is saved as, which hold its secrets. What it sealed is stored with them, and sent only then: by

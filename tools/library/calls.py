@@ -22,6 +22,15 @@ def refusal_of(call, *words):
     return 0
 
 
+def overflows(call, number):
+    """Whether a call takes no such number."""
+    try:
+        call(number)
+    except OverflowError:
+        return True
+    return False
+
+
 def wrong(what):
     print(what)
     sys.exit(1)
@@ -65,6 +74,8 @@ def try_kept(alice, bob):
     lacking.forget_proposal(reference)
     hold("what a commit names", (bob.missing_proposals(commit), lacking.missing_proposals(commit)) == ([], [reference]))
     hold("what is no message", refusal_of(bob.missing_proposals, b"") == 2)
+    hold("none is asked for", lacking.missing_proposals(commit, most=0) == [])
+    hold("no number of C", overflows(bob.propose_remove, 2**64) and overflows(bob.propose_remove, -1))
     hold("nothing is forgotten under a pending commit", refusal_of(alice.forget_proposal, reference) == 67)
     hold("what is refused changes nothing", alice.reference_of(update) == reference)
     return commit

@@ -7,8 +7,8 @@
  * added and joins, a message goes to all members, what is sealed to all conversations, and a conversation goes on as one
  * that was saved. Where CHANCE isn't 0, each allocation of the library fails with a chance of 1 in CHANCE. The program
  * ends with status 1 where a call answers 0 and makes no handle that is due, or makes one where it is refused; where a
- * handle is null or of another kind, and the answer isn't 130 or 131, or 1; where a member or a conversation that refused
- * a call isn't saved as before; or where one that goes on isn't saved as the other.
+ * handle is null and the answer isn't 130, or is of another kind and the answer isn't 131; where a member or a
+ * conversation that refused a call isn't saved as before; or where one that goes on isn't saved as the other.
  *
  * It is linked with -Wl,--wrap=malloc,--wrap=realloc, by which allocations fail.
  */
