@@ -121,7 +121,8 @@ uint32_t mls_member_inspect(mls_member *member, const uint8_t *message, size_t m
 uint32_t mls_member_reference(mls_member *member, const uint8_t *message, size_t message_length, mls_bytes **reference);
 
 /* The reference at an index of the proposals that a commit names and the member lacks; null where there are no more.
- * The member refuses the commit (60) until it has taken these. Nothing of the commit is checked. */
+ * Until it has taken these it refuses the commit, unless this is its own: with 60, where nothing else is wrong with it
+ * before. Nothing of the commit is checked here, and each call reads it again: ask for no more than you would fetch. */
 uint32_t mls_member_missing_proposal(mls_member *member, const uint8_t *commit, size_t commit_length, uint64_t index,
                                      mls_bytes **reference);
 
@@ -191,7 +192,7 @@ uint32_t mls_conversation_save(mls_conversation *conversation, mls_bytes **saved
 
 /* Has a conversation go on as the one of its member and epoch that was saved so: after mls_member_load it is made by
  * mls_conversation_new, and restored with the bytes of the last save. 116 where it used a key already; the first fault of
- * bytes that no conversation was saved as (2 to 7); 111 another group, 112 another epoch, 7 also another leaf or a tree of
+ * bytes that spell no saved form (2 to 7); 111 another group, 112 another epoch, 7 also another leaf or a tree of
  * another height; or 1. */
 uint32_t mls_conversation_restore(mls_conversation *conversation, const uint8_t *saved, size_t saved_length);
 

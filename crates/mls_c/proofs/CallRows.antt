@@ -1,15 +1,11 @@
 -- The types of a call's parts as rows, with how each is stored. Assumes nothing.
-use mir.Val.{vint}
 use mathlib.Core.Path.{refl}
-use mir.Syntax.{Width}
 use denote.RattleType.{RattleType}
-use denote.Builtin.{RawPtr, u32}
+use denote.Builtin.{u32}
 use denote.Param.Shared.{copy_shared}
 use denote.Struct.Field.{u32-field}
 use denote.Struct.Laws.{u32-laws, u32-copy}
-use denote.Plain.{UInt, uint_Tells}
-use denote.RawPtr.{ptr_val, rawptr_Tells_one}
-use denote.Param.Laws.{Laws, Told, of_field}
+use denote.Param.Laws.{Laws, of_field}
 use Rattle.std.specs.contracts.alloc.Global as heap
 use Rattle.std.proofs.alloc.Global.TheLaws as heap_laws
 use Rattle.std.specs.contracts.impls.GlobalAllocator.TheImpl.{ghosts}
@@ -41,9 +37,3 @@ Outcome = result.the_row fruit.the_row u32
 
 abbrev pub outcome_row_laws : Laws Outcome
 outcome_row_laws = result_laws.the_row_laws fruit.the_row u32 fruit_laws.the_row_laws (of_field u32-field u32-laws refl (copy_shared u32-field u32-copy))
-
-abbrev pub ptr_told : Told RawPtr
-ptr_told = record { val = ptr_val; tells = rawptr_Tells_one }
-
-abbrev pub number_told : (w : Width) → Told (UInt w)
-number_told w = record { val = vint w; tells = uint_Tells w }

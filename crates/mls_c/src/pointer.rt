@@ -15,7 +15,7 @@ ghost use Rattle.mls_calls.specs.declared.held.Held.TheVariants.{Nothing};
 
 use crate::handle::Handle;
 use crate::loose::Loose;
-use mls_calls::{Given, Held, MisuseError, bytes_of, no_bytes};
+use mls_calls::{Given, Held, MisuseError, given_of, none_given};
 use std::alloc::Global;
 
 /// What null holds.
@@ -102,9 +102,9 @@ pub(crate) unsafe fn copy_at(alloc: Global, at: *const u8, length: usize) -> Giv
     ensures* memory { sem 𝓛 (bytes_at g.0 at length g.1) }
 {
     if at.is_null() {
-        return no_bytes(alloc, length);
+        return none_given(alloc, length);
     }
-    bytes_of(alloc, std::slice::from_raw_parts(at, length))
+    given_of(alloc, std::slice::from_raw_parts(at, length))
 }
 
 /// Writes the handle of what was made, unless the place is null.

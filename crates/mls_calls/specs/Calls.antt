@@ -22,7 +22,7 @@ use Rattle.mls_exchange.specs.State.{State, member_at as sender_at}
 use Rattle.mls_exchange.specs.MessagePlace.{MessagePlace, place_read}
 use Rattle.mls_exchange.specs.Sealing.{seal_message}
 use Rattle.mls_exchange.specs.Opening.{open_message}
-use Rattle.mls_exchange.specs.Saved.{saved_exchange, saved_of as saved_exchange_of, FitsInput as FitsExchangeInput, restore}
+use Rattle.mls_exchange.specs.Saved.{saved_exchange, saved_of as saved_exchange_of, FitsInput as FitsExchangeInput, RestoresAsWas, restore}
 use Rattle.mls_exchange.specs.declared.open.Opened.{Opened}
 use Rattle.mls_conversation.specs.Conversation.{conversation_of}
 use Rattle.mls_candidate.specs.Saved.{save_candidate, load_candidate}
@@ -40,7 +40,7 @@ use Rattle.mls_member.specs.GroupMembers.{group_member}
 use Rattle.mls_member.specs.KeptProposals.{kept_reference, without_kept}
 use Rattle.mls_member.specs.KeptTogether.{kept_list}
 use Rattle.mls_member.specs.ListedProposals.{missing_proposals}
-use Rattle.mls_member.specs.Saved.{saved_of, load, FitsInput}
+use Rattle.mls_member.specs.Saved.{saved_of, load, FitsInput, LoadsAsWas}
 use Rattle.mls_calls.specs.Faults.{number_of}
 use Rattle.mls_calls.specs.Given.{Text}
 use Rattle.mls_calls.specs.Names.{library_name}
@@ -401,11 +401,12 @@ member_leaf_index held = a_member held >>= λ m. Ok (tells m.keys.leaf, held)
 abbrev pub IsTwo : List ℕ → Option (List ℕ) → ℕ → Fruit → Type 0
 IsTwo xs ys n f = fruits f ≡ (Some (bytes xs), option_map bytes ys, n)
 
--- what is made of a member that is saved, in a handle: the bytes that its saved form spells, or `TooLong` (6) where
--- that has no spelling of an input's length; or `OutOfMemory`
+-- what is made of a member that is saved, in a handle: the bytes that its saved form spells, by which a good member is
+-- loaded as it was; or `TooLong` (6) where that has no spelling of an input's length; or `OutOfMemory`
 abbrev pub SavesMember : Member → Result Fruit ℕ → Type 0
 SavesMember m (Ok f) =
     FitsInput (saved_of m) × (fruits f ≡ makes (bytes (saved_member.spell (saved_of m))))
+    × LoadsAsWas suite_0001 m (saved_member.spell (saved_of m))
 SavesMember m (Err n) = n ≢ 1 → (n ≡ 6) × (FitsInput (saved_of m) → ⊥)
 
 abbrev pub SavesIfMember : Result Member ℕ → Result Fruit ℕ → Type 0
@@ -535,12 +536,14 @@ make_sender_identity held leaf = a_conversation held
 unfoldable pub conversation_member_at : Shown → ℕ → Answer
 conversation_member_at held leaf = make_sender_identity held leaf >>= λ x. Ok (x, held)
 
--- what is made of a conversation that is saved, in a handle: the bytes that its saved form spells, or `TooLong` (6) where
--- that has no spelling of an input's length; or `OutOfMemory`
+-- what is made of a conversation that is saved, in a handle: the bytes that its saved form spells, by which one of its
+-- epoch and leaf that used no key goes on as it was; or `TooLong` (6) where that has no spelling of an input's length; or
+-- `OutOfMemory`
 abbrev pub SavesConversation : State → Result Fruit ℕ → Type 0
 SavesConversation s (Ok f) =
     FitsExchangeInput (saved_exchange_of s)
     × (fruits f ≡ makes (bytes (saved_exchange.spell (saved_exchange_of s))))
+    × RestoresAsWas s (saved_exchange.spell (saved_exchange_of s))
 SavesConversation s (Err n) = n ≢ 1 → (n ≡ 6) × (FitsExchangeInput (saved_exchange_of s) → ⊥)
 
 abbrev pub SavesIfConversation : Result State ℕ → Result Fruit ℕ → Type 0

@@ -1,4 +1,4 @@
-//! Calls on bytes, and calls that make candidates and members.
+//! Calls on bytes, calls that make candidates and members, and a member's epoch, group and leaf.
 
 ghost use Rattle.std.specs.Prelude.{◌≡◌};
 ghost use Rattle.mls_calls.specs.Calls.{Does, Makes, bytes_at, bytes_length, candidate_new, candidate_key_package, make_candidate, make_group, make_group_id, make_joiner, make_package, member_create, member_epoch, member_group_id, member_join, member_leaf_index};

@@ -21,7 +21,7 @@ use mls_types::ProposalOrRef;
 use std::alloc::{AllocError, Global};
 
 /// A Welcome, if there is one, as a byte string.
-fn text_of(welcome: Option<Vec<u8>>) -> Option<Bytes>
+fn welcome_of(welcome: Option<Vec<u8>>) -> Option<Bytes>
     ensures { result ≡ option_map (λ v. v.items) welcome }
 {
     match welcome {
@@ -47,7 +47,7 @@ fn commit_kept_list(
     match member.commit_kept(path != 0, &seed) {
         Ok(kept) => {
             let commit = Bytes::from_vec(kept.made.commit);
-            let welcome = text_of(kept.made.welcome);
+            let welcome = welcome_of(kept.made.welcome);
             Ok(two(commit_room, welcome_room, commit, welcome, 0))
         }
         Err(error) => Err(error.number() as u32),
@@ -143,7 +143,7 @@ fn commit_given_list(
     match member.commit(&items, path != 0, &seed) {
         Ok(made) => {
             let commit = Bytes::from_vec(made.commit);
-            let welcome = text_of(made.welcome);
+            let welcome = welcome_of(made.welcome);
             Ok(two(commit_room, welcome_room, commit, welcome, 0))
         }
         Err(error) => Err(error.number() as u32),

@@ -1,11 +1,11 @@
-//! What the library refuses before a call begins.
+//! What the library refuses of what it is given, beside the refusals of its calls.
 
 ghost use Rattle.std.specs.Prelude.{◌≡◌};
 ghost use Rattle.mls_calls.specs.Faults.{name_of, number_of};
 
 use thiserror::Error;
 
-/// Why a call isn't begun.
+/// Why the library refuses what it is given.
 #[derive(Clone, Copy, Debug, PartialEq, Eq, Error)]
 pub enum MisuseError {
     /// The handle is null.
@@ -23,7 +23,7 @@ pub enum MisuseError {
     /// The message is of no KeyPackage.
     #[error("no message of a KeyPackage")]
     NotKeyPackage,
-    /// The buffer isn't as long as the bytes.
+    /// The buffer isn't as long as the bytes, or no byte stands at the index.
     #[error("a buffer of another length")]
     BufferLength,
     /// The label is no text of at most 200 bytes.

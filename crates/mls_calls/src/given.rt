@@ -27,7 +27,7 @@ pub(crate) fn copy_of(alloc: Global, bytes: &[u8]) -> Result<Vec<u8>, u32>
 }
 
 /// A copy of bytes that were passed.
-pub fn bytes_of(alloc: Global, bytes: &[u8]) -> Given
+pub fn given_of(alloc: Global, bytes: &[u8]) -> Given
     ensures { IsCopy bytes.now result.bytes }
 {
     Given {
@@ -36,7 +36,7 @@ pub fn bytes_of(alloc: Global, bytes: &[u8]) -> Given
 }
 
 /// What stands for bytes at null: none, or `NullBytes` (132) where they have a length.
-pub fn no_bytes(alloc: Global, length: usize) -> Given
+pub fn none_given(alloc: Global, length: usize) -> Given
     ensures { IsNone length result.bytes }
 {
     Given {

@@ -24,5 +24,5 @@ pub use copying::{CopyOutcome, copy_out};
 pub use dispatch::do_call;
 pub use done::{Done, Fruit, Parts, parts_of};
 pub use error::MisuseError;
-pub use given::{Given, bytes_of, no_bytes};
+pub use given::{Given, given_of, none_given};
 pub use held::Held;

@@ -1,5 +1,5 @@
 -- Texts, read one by one.
-use Rattle.std.proofs.Common.{◌≡◌, ◌∙◌, ◌<◌, ◌++◌, ◌∷◌, [], ◌+◌, ℕ, suc, List, Option, Some, None, option_map, map, drop, length, get_or, string_bytes, refl, ap, sym, append_assoc, drop-cons, add-one}
+use Rattle.std.proofs.Common.{◌≡◌, ◌∙◌, ◌<◌, ◌++◌, ◌∷◌, [], ◌+◌, ℕ, suc, List, Option, Some, None, option_map, drop, length, get_or, string_bytes, refl, ap, sym, append_assoc, drop-cons, add-one}
 use Rattle.std.specs.Global.{Global, Vec}
 use Rattle.std.specs.declared.string.String.{String}
 use Rattle.std.proofs.lemmas.List.{map-append}

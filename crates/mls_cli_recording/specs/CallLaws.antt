@@ -8,8 +8,10 @@ use Rattle.mls_cli_recording.specs.Calls.{call_view}
 
 -- they leave the same world
 abbrev pub SameRun : Type 0
-SameRun = (c : Crypto) (w : World) (es fs : List Event) → map call_view es ≡ map call_view fs → run c w es ≡ run c w fs
+SameRun = (c : Crypto) (w : World) (es fs : List Event)
+    → map call_view es ≡ map call_view fs → run c w es ≡ run c w fs
 
 -- they have the same replies
 abbrev pub SameReplies : Type 0
-SameReplies = (c : Crypto) (w : World) (es fs : List Event) → map call_view es ≡ map call_view fs → replies c w es ≡ replies c w fs
+SameReplies = (c : Crypto) (w : World) (es fs : List Event)
+    → map call_view es ≡ map call_view fs → replies c w es ≡ replies c w fs

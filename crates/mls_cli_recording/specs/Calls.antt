@@ -103,7 +103,8 @@ action_view (action.Event e) = call (call_view e)
 action_view (action.DeliverAll s) = deliver_all (source_view s)
 
 abbrev pub recorded_view : Recorded → RecordedAction
-recorded_view r = record { action = action_view r.action; expect = option_map string_bytes r.expect }
+recorded_view r =
+    record { action = action_view r.action; expect = option_map string_bytes r.expect }
 
 -- the recorded actions of a list that was read, where all of its texts are hex
 abbrev pub recorded_views : Option (Vec Recorded) → Option (List RecordedAction)

@@ -30,7 +30,8 @@ abbrev pub source_at : List ℕ → Data → Option (Option MessageSource)
 source_at key d = get key d >>= source_in
 
 -- an item with its source
-abbrev pub item_with_source : {X : Type 0} → (MessageSource → X) → Option (Option MessageSource) → Option (Option X)
+abbrev pub item_with_source : {X : Type 0} → (MessageSource → X) →
+    Option (Option MessageSource) → Option (Option X)
 item_with_source make source = option_map (option_map make) source
 
 -- the proposal whose message has that source, by its reference
@@ -69,7 +70,8 @@ item_by None None (Some list) d = extensions_in d
 item_by None None None d = removal_in d
 
 abbrev pub item_in : Data → Option (Option CommitItem)
-item_in d = require (is_object_of 1 d) (item_by (get (codes "ref") d) (get (codes "add") d) (get (codes "extensions") d) d)
+item_in d = require (is_object_of 1 d)
+    (item_by (get (codes "ref") d) (get (codes "add") d) (get (codes "extensions") d) d)
 
 abbrev pub commit_items_at : List ℕ → Data → Option (Option (List CommitItem))
 commit_items_at key d = items_at key d >>= each_of item_in
@@ -170,7 +172,9 @@ deliver_all_in d = require (has_keys 2 d) (do
 
 -- by the name of the op; version 2 has one more
 abbrev pub action_by : ℕ → List ℕ → Data → Option (Option Action)
-action_by version op d = if (version == 2) && bytes_eq op (codes "deliver_all") then deliver_all_in d else event_in op d
+action_by version op d =
+    if (version == 2) && bytes_eq op (codes "deliver_all") then deliver_all_in d
+    else event_in op d
 
 abbrev pub recorded_with : Option (List ℕ) → Action → RecordedAction
 recorded_with expect action = record { action = action; expect = expect }
@@ -203,7 +207,8 @@ is_version version = (version == 1) || (version == 2)
 
 -- an object of a version, a suite and events; in version 2 of lines in the end too, where they are recorded
 abbrev pub has_parts : ℕ → Data → Bool
-has_parts version d = is_object_of (if (version == 2) && is_some (get (codes "final") d) then 4 else 3) d
+has_parts version d =
+    is_object_of (if (version == 2) && is_some (get (codes "final") d) then 4 else 3) d
 
 abbrev pub recording_with : Option (List (List ℕ)) → List RecordedAction → Recording
 recording_with lines actions = record { actions = actions; final_lines = lines }

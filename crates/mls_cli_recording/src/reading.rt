@@ -149,9 +149,9 @@ fn parts_in(alloc: Global, number: u16, value: &Value) -> Result<Option<Recorded
     }
 }
 
-/// Reads a recording for the suite of this number: its actions, each with the text that its reply should have, if one is recorded, and the lines
-/// that members should have in the end, if they are; or answers the fault of its shape (`BadJson` (9)), also where it is
-/// for another suite, or else that a text in it isn't hex (`NotHex` (8)).
+/// Reads a recording for the suite of this number: its actions, each with the text that its reply should have, if one is
+/// recorded, and the lines that members should have in the end, if they are; or answers the fault of its shape
+/// (`BadJson` (9)), also where it is for another suite, or else that a text in it isn't hex (`NotHex` (8)).
 #[tactic(auto, unfolding(crate::specs::Recording::recording))]
 pub fn recording(alloc: Global, number: u16, text: &[u8]) -> Result<RecordedRun, JsonError>
     ensures parts { Answers recording_view number_of (recording number text.now) result }

@@ -2,7 +2,7 @@
 use Rattle.std.proofs.Common.{◌≡◌, ◌∙◌, ◌≤◌, ◌<◌, ◌⊎◌, inl, inr, ◌++◌, ◌∷◌, [], ◌+◌, ℕ, suc, List, Option, Some, None, option_map, slice_get, drop, length, refl, ap, sym, subst, append_assoc, append-nil, drop-cons, add-one, get_or}
 use Rattle.std.proofs.lemmas.Option.{slice_get_cases}
 use Rattle.std.proofs.lemmas.List.{drop_all}
-use Rattle.std.proofs.KnownBytes.{Appends-nil, Appends-trans}
+use Rattle.std.proofs.KnownBytes.{Appends-trans}
 use Rattle.std.specs.List.{flat_map}
 use Rattle.std.specs.Io.KnownBytes.{Appends}
 use Rattle.mls_model.specs.Member.{Member}
@@ -54,9 +54,6 @@ pub record Named (seats : List Seat) (old new : Option (List ℕ)) (k : ℕ) : T
   pub done : List ℕ
   pub grown : Appends old new done
   pub text : named 0 seats ≡ done ++ named k (drop k seats)
-
-pub named_nobody : (seats : List Seat) (old : Option (List ℕ)) → Named seats old old 0
-named_nobody seats old = record { done = []; grown = Appends-nil old; text = refl }
 
 next_text : (seats : List Seat) (k : ℕ) (m : Member) → member_at seats k ≡ Some m → named k (drop k seats) ≡ name_of k m ++ named (k + 1) (drop (k + 1) seats)
 next_text seats k m is =

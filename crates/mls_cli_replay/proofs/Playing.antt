@@ -143,9 +143,6 @@ entry_nonempty e more = omega (arith, length-append (entry_text e) more, length-
 pub said_nonempty : (i : ℕ) (outcome : Outcome) (expect : Option (List ℕ)) → 0 < length (flat_map entry_text (action_entries i outcome expect))
 said_nonempty i outcome expect = entry_nonempty (replied i outcome) (flat_map entry_text (unmet_entries i outcome expect))
 
-pub said_met : (i : ℕ) (outcome : Outcome) (expect : Option (List ℕ)) → is_met outcome expect ≡ true → flat_map entry_text (action_entries i outcome expect) ≡ entry_text (replied i outcome)
-said_met i outcome expect met = rw met (append-nil (entry_text (replied i outcome)))
-
 pub said_unmet : (i : ℕ) (outcome : Outcome) (expect : Option (List ℕ)) → is_met outcome expect ≡ false
     → flat_map entry_text (action_entries i outcome expect) ≡ entry_text (replied i outcome) ++ flat_map entry_text (expected_entries i expect)
 said_unmet i outcome expect unmet = rw unmet refl

@@ -1,19 +1,13 @@
 -- What is printed of a file, by what is printed of what was read of it.
-use Rattle.std.proofs.Common.{◌≡◌, ◌≢◌, ◌∙◌, ℕ, List, ◌∷◌, [], Option, Result, Ok, Err, IsErr, true, false, inl, inr, arith, refl, ap, sym, subst}
+use Rattle.std.proofs.Common.{◌≡◌, ◌≢◌, ◌∙◌, ℕ, List, ◌∷◌, [], Option, Result, Ok, Err, IsErr, true, inl, inr, arith, refl, ap, sym, subst}
 use Rattle.std.proofs.KnownBytes.{Keeps-refl}
 use Rattle.std.specs.declared.alloc.AllocError.{AllocError}
 use Rattle.serde_json.specs.Data.{Data}
 use Rattle.mls_suite.specs.Crypto.{Crypto}
 use Rattle.mls_model.specs.Member.{Member}
 use Rattle.mls_model.specs.World.{World, empty_world}
-use Rattle.mls_leaf.specs.Faults.{Encodes, Refuses, number_of as leaf_number_of}
-use Rattle.mls_leaf.specs.declared.error.LeafError.{LeafError}
-use Rattle.mls_leaf.specs.declared.error.LeafError.TheVariants as leaf
-use Rattle.mls_wire.specs.declared.WireError.TheVariants as wire
-use Rattle.mls_types.specs.GroupInfo.{ratchet_tree}
-use Rattle.mls_tree_model.specs.Arrays.{to_nodes}
 use Rattle.mls_cli_text.specs.Page.{Printout, Prints, good, page_of, printout, refused}
-use Rattle.mls_cli_text.specs.declared.page.Ending.TheVariants.{Good, Refused}
+use Rattle.mls_cli_text.specs.declared.page.Ending.TheVariants.{Refused}
 use Rattle.mls_cli_text.specs.MadePage.{PrintsMade}
 use Rattle.mls_cli_text.specs.declared.page.Page as code
 use Rattle.mls_cli_text.specs.declared.fault.Fault.{Fault}
@@ -65,31 +59,6 @@ module _ (Is : RecordedRun → Printout → Type 0) (c : Crypto) (file : List �
 -- the page of a refusal alone
 pub refused_is : (p : code.Page TreeDigits) (n : ℕ) → p.lines.items ≡ [] → p.ending ≡ Refused n → page_of bytes_of p ≡ refused n
 refused_is p n none ends = rw (none, ends) refl
-
--- what is refused for another reason than memory is too long
-pub too_long : {P : Type 0} (e : LeafError) → Refuses P e → (leaf_number_of e ≡ 1 → ⊥) → (leaf_number_of e ≡ 6) × (P → ⊥)
-too_long (leaf.Wire wire.OutOfMemory) r not = absurd (not refl)
-too_long (leaf.Wire wire.Truncated) r not = absurd r
-too_long (leaf.Wire wire.Trailing) r not = absurd r
-too_long (leaf.Wire wire.BadLength) r not = absurd r
-too_long (leaf.Wire wire.NotMinimal) r not = absurd r
-too_long (leaf.Wire wire.TooLong) r not = (refl, r)
-too_long leaf.BadTag r not = absurd r
-too_long leaf.UnsupportedCredential r not = absurd r
-too_long leaf.UnsupportedProposal r not = absurd r
-too_long leaf.NotRising r not = absurd r
-too_long leaf.ExtensionNotAllowed r not = absurd r
-
--- the spelling of a member's tree, or the refusal where it has none
-pub spelled_is : (m : Member) (p : code.Page TreeDigits) (d : TreeDigits) → m.gone ≡ false → p.lines.items ≡ d ∷ [] → p.ending ≡ Good → Encodes ratchet_tree (to_nodes m.public.tree) (Ok d.bytes)
-    → IsTreeOf m (page_of bytes_of p)
-spelled_is m p d there lines ends spells = inr (there, inl (spells.fits, rw (lines, ends, spells.spelled) refl))
-
-pub unspelled_is : (m : Member) (p : code.Page TreeDigits) (e : LeafError) (n : ℕ) → m.gone ≡ false → n ≡ leaf_number_of e → (n ≡ 1 → ⊥) → p.lines.items ≡ [] → p.ending ≡ Refused n
-    → Refuses (ratchet_tree.Fits (to_nodes m.public.tree)) e → IsTreeOf m (page_of bytes_of p)
-unspelled_is m p e n there is not none ends refuses =
-    let long = too_long e refuses (λ one. not (is ∙ one)) in
-    inr (there, inr (long.1, refused_is p n none ends ∙ ap refused (is ∙ long.0)))
 
 pub gone_is : (m : Member) (p : code.Page TreeDigits) → m.gone ≡ true → p.lines.items ≡ [] → p.ending ≡ Refused 40 → IsTreeOf m (page_of bytes_of p)
 gone_is m p gone none ends = inl (gone, refused_is p 40 none ends)

@@ -91,7 +91,8 @@ DeliversOnce c old new k source (Err e) = new ≡ old
 -- What of a delivery is decided before anything grows is its reply also when an allocation fails.
 abbrev pub RepliesOnce : {E : Type 0} → Crypto → World → World → ℕ → Source → Result Reply E →
     Type 0
-RepliesOnce c old new k source result = RepliesEarly c.number (event.Deliver k source) old new result
+RepliesOnce c old new k source result =
+    RepliesEarly c.number (event.Deliver k source) old new result
 
 -- So is what of an event is decided before anything grows.
 abbrev pub ComesEarly : {E : Type 0} → Crypto → World → World → Action → Result Outcome E → Type 0

@@ -20,7 +20,8 @@ use Rattle.mls_cli_replay.specs.declared.view.ReplayView.TheVariants as view
 abbrev pub IsViewOf : Crypto → ReplayView → List ℕ → RecordedRun → Printout → Type 0
 IsViewOf c view.Replies file run p = p ≡ printout entry_text (page_of_run c run)
 IsViewOf c view.Unmet file run p = p ≡ printout entry_text (quiet_page_of c run)
-IsViewOf c (view.Message n) file run p = p ≡ printout digits_text (message_page c n run.actions.items)
+IsViewOf c (view.Message n) file run p =
+    p ≡ printout digits_text (message_page c n run.actions.items)
 IsViewOf c (view.Tree k) file run p = IsTree c k run.actions.items p
 IsViewOf c view.Recording file run p = IsRecord c file run.actions.items p
 

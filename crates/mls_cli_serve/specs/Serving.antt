@@ -103,7 +103,8 @@ abbrev pub ShowsTold : ℕ → Told → ℕ → Option (List ℕ) → Option (Li
 ShowsTold n told status out_old out_new written old new failed =
     ((status ≡ 0) × Appends out_old out_new (printout line_text (told_page n told)).text
     × (written ≡ false) × Keeps old new)
-    ⊎ ((status ≡ 3) × KeepsOrAppendsPart out_old out_new (printout line_text (told_page n told)).text
+    ⊎ ((status ≡ 3)
+    × KeepsOrAppendsPart out_old out_new (printout line_text (told_page n told)).text
     × SaysOrFails old new failed (fault_text [] (cause false written)))
 
 -- Without a job: help is written, and so is what is told of a refusal. A mistake is said, with status 2, and

@@ -148,8 +148,9 @@ impl<S: Suite> Conversation<S> {
     }
 
     /// The conversation as bytes, with which another of the same member and epoch goes on by `restore`: the group, the
-    /// epoch, the leaf and the secrets that keys not used yet are derived from. `TooLong` (6) where there are more bytes than an input
-    /// has. What `seal` made is to be stored with them and sent only then: a key of an older save would be used twice.
+    /// epoch, the leaf and the secrets that keys not used yet are derived from. `TooLong` (6) where there are more bytes
+    /// than an input has. What `seal` made is to be stored with them and sent only then: a key of an older save would
+    /// be used twice.
     pub fn save(&self) -> Result<Vec<u8>, LeafError>
         ensures saved { Saves (saved_of self.now) result }
         // By them the conversation goes on as it was.
@@ -158,9 +159,10 @@ impl<S: Suite> Conversation<S> {
         self.exchange.save()
     }
 
-    /// Goes on as a conversation of the same member and epoch, which `save` made these bytes of. `KeyUsed` (116) where this
-    /// one used a key already; the first fault of bytes that no conversation was saved as; `OtherGroup` (111), `OtherEpoch`
-    /// (112), `BadTag` (7) of another leaf or of a tree of another height. A refusal changes nothing.
+    /// Goes on as a conversation of the same member and epoch, which `save` made these bytes of; it holds the keys that
+    /// they have, whoever made them. `KeyUsed` (116) where this one used a key already; the first fault of bytes that
+    /// spell no saved form; `OtherGroup` (111), `OtherEpoch` (112), `BadTag` (7) of another leaf or of a tree of another
+    /// height. A refusal changes nothing.
     pub fn restore(&mut self, bytes: &[u8]) -> Result<(), ExchangeError>
         ensures answer { Restores bytes.now self.old self.new result }
         // 116 and faults of the bytes come also when an allocation fails.

@@ -169,7 +169,7 @@ impl<S: Suite> Exchange<S> {
     }
 
     /// Goes on with the keys of an exchange of the same member and epoch, which `save` made these bytes of. `KeyUsed` (116)
-    /// where a key of this one was used already; the first fault of bytes that no exchange was saved as; `OtherGroup`
+    /// where a key of this one was used already; the first fault of bytes that spell no saved form; `OtherGroup`
     /// (111), `OtherEpoch` (112), `BadTag` (7) of another leaf or of a tree of another height. A refusal changes nothing.
     #[tactic(auto, unfolding(crate::specs::Saved::restore))]
     pub fn restore(&mut self, bytes: &[u8]) -> Result<(), ExchangeError>

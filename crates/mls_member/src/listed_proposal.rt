@@ -117,9 +117,9 @@ impl<S: Suite> Member<S> {
     }
 
     /// The references that a commit's message names, and under which the member keeps no proposal, in the list's order
-    /// (RFC 9420, 12.4): what it has to be sent before it can follow that commit, which it refuses with
-    /// `UnknownReference` (60) till then. Nothing of the message is checked. Faults of decoding, `NotPublicMessage`
-    /// (41). A message that is no commit names none.
+    /// (RFC 9420, 12.4): what it has to be sent before it can follow that commit, unless this is its own pending one.
+    /// Nothing of the message is checked. Faults of decoding, `NotPublicMessage` (41). A message that is no commit
+    /// names none.
     #[tactic(auto, unfolding(crate::specs::ListedProposals::missing_proposals))]
     pub fn missing_proposals(&self, bytes: &[u8]) -> Result<Vec<Bytes>, Refusal>
         ensures answer { ListsReferences (missing_proposals self.now bytes.now) result }

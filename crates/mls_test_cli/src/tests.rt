@@ -20,15 +20,14 @@ mod views;
 
 ghost use Rattle.std.specs.Prelude.{◌≡◌, IfSome, Some, false};
 
-use crate::tests::cases::{FileCase, count_met_by, is_met};
-use crate::tests::faults::{is_cut_at_lines, is_unread_at_each, serve_with_errors};
-use crate::tests::vectors::repeat_text;
+use crate::tests::cases::{FileCase, count_met_by};
+use crate::tests::faults::is_cut_after;
 use mls_cli_replay::Silent;
 use mls_cli_serve::{NoJob, Request, no_text, request, serve};
 use mls_cli_text::{Input, Out, Output};
 use std::alloc::{AllocError, Global};
 use std::io;
-use std::io::{ErrorKind, Read, Write};
+use std::io::{ErrorKind, Write};
 use std::test::Fail;
 
 const KEY_PACKAGE: &str =
@@ -162,21 +161,6 @@ fn with_room(alloc: Global, room: usize) -> Result<Full, AllocError> {
     Ok(Full { held, room })
 }
 
-/// Gives its bytes, and then fails.
-#[derive(Drop)]
-struct Broken<'a> {
-    rest: &'a [u8],
-}
-
-impl Read for Broken<'_> {
-    fn read(&mut self, bytes: &mut [u8]) -> io::Result<usize> {
-        if self.rest.is_empty() {
-            return Err(io::Error::from(ErrorKind::Other));
-        }
-        self.rest.read(bytes)
-    }
-}
-
 const SHOW: &[&str] = &["mls", "show", "FILE"];
 
 /// The KeyPackage between blanks, with a byte behind it.
@@ -273,32 +257,6 @@ fn shows_each_kind(rt: HostRuntime) -> Result<(), Fail> {
     Ok(())
 }
 
-/// A message with these digits as its data.
-fn long_message(alloc: Global, digits: &str) -> Result<String, AllocError> {
-    format!(in alloc; "0001000101670000000000000000010000000200015388{digits}01aa01bb")
-}
-
-/// What is shown of it.
-fn long_text(alloc: Global, digits: &str) -> Result<String, AllocError> {
-    format!(in alloc;
-        "message: public_message\nbytes: 5027\ngroup_id: 67\nepoch: 0\nsender: 2\nauthenticated_data: -\ncontent: application\ndata: {digits}\nsignature: aa\nmembership_tag: bb\n"
-    )
-}
-
-fn is_shown_whole(alloc: Global) -> Result<bool, AllocError> {
-    let digits = repeat_text(alloc, "6a", 5000)?;
-    let file = long_message(alloc, digits.as_str())?;
-    let text = long_text(alloc, digits.as_str())?;
-    is_met(alloc, SHOW, file.as_bytes(), 0, text.as_bytes())
-}
-
-/// A text longer than what one write of the system may take is written whole.
-#[test]
-fn shows_long_texts(rt: HostRuntime) -> Result<(), Fail> {
-    assert!(rt; is_shown_whole(rt.alloc())?);
-    Ok(())
-}
-
 /// Words with no file: the status, what is printed, and what is said.
 type Words<'a> = (&'a [&'a str], u8, &'a str, &'a str);
 
@@ -386,71 +344,8 @@ fn prints_help(rt: HostRuntime) -> Result<(), Fail> {
     Ok(())
 }
 
-/// Whether it is said that memory is wanting. The errors' own `Vec` may want memory too.
-fn is_wanting(alloc: Global) -> bool {
-    let mut none: Option<&[u8]> = None;
-    let mut out = Vec::new(alloc);
-    let mut held = Vec::new(alloc);
-    let status = serve_silently(
-        alloc,
-        &Err(NoJob::OutOfMemory),
-        &mut none,
-        &mut out,
-        &mut held,
-    );
-    let said = held.as_slice() == OUT_OF_MEMORY.as_bytes() || held.is_empty();
-    status == 3 && out.is_empty() && said
-}
-
-#[test]
-fn says_that_memory_is_wanting(rt: HostRuntime) {
-    assert!(rt; is_wanting(rt.alloc()));
-}
-
 #[test]
 fn stops_where_a_write_fails(rt: HostRuntime) -> Result<(), Fail> {
-    assert!(rt; is_cut_at_lines(rt.alloc(), SHOW, KEY_PACKAGE, TEXT, 0)?);
-    assert!(rt; is_cut_at_lines(rt.alloc(), &["mls", "--help"], KEY_PACKAGE, HELP, 0)?);
-    Ok(())
-}
-
-#[test]
-fn stops_where_a_read_fails(rt: HostRuntime) -> Result<(), Fail> {
-    assert!(rt; is_unread_at_each(rt.alloc(), SHOW, KEY_PACKAGE)?);
-    Ok(())
-}
-
-/// What is said where the file can't be opened.
-const UNREAD: &str = "mls: cannot read FILE\n";
-
-/// Whether it is said as far as there is room.
-fn is_said_within(
-    alloc: Global,
-    request: &Result<Request<'_>, NoJob>,
-    room: usize,
-) -> Result<bool, AllocError> {
-    let left = serve_with_errors(alloc, request, None, room)?;
-    if let Err(NoJob::OutOfMemory) = request {
-        return Err(AllocError);
-    }
-    Ok(left.is(3, "", UNREAD, room))
-}
-
-fn is_said_by(alloc: Global, request: &Result<Request<'_>, NoJob>) -> Result<bool, AllocError> {
-    for room in 0..UNREAD.len() + 1 {
-        if !is_said_within(alloc, request, room)? {
-            return Ok(false);
-        }
-    }
-    Ok(true)
-}
-
-fn is_said(alloc: Global) -> Result<bool, AllocError> {
-    is_said_by(alloc, &request_of(alloc, SHOW))
-}
-
-#[test]
-fn says_what_fails_as_far_as_it_can(rt: HostRuntime) -> Result<(), Fail> {
-    assert!(rt; is_said(rt.alloc())?);
+    assert!(rt; is_cut_after(rt.alloc(), SHOW, KEY_PACKAGE, TEXT, 10)?);
     Ok(())
 }

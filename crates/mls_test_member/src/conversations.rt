@@ -9,5 +9,5 @@ mod rows;
 mod saves;
 mod secret_trees;
 mod speakers;
-mod trio;
+pub(crate) mod trio;
 mod wrong;

@@ -13,15 +13,11 @@ mod extensions;
 #[cfg(test)]
 mod joins;
 #[cfg(test)]
-mod loads;
-#[cfg(test)]
 mod messages;
 #[cfg(test)]
 mod paths;
 #[cfg(test)]
 mod saved_candidates;
-#[cfg(test)]
-mod saved_group;
 #[cfg(test)]
 mod saved_members;
 #[cfg(test)]

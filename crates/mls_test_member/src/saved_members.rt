@@ -1,6 +1,6 @@
-//! Members that are saved and loaded, and saved bytes that were changed.
+//! Saved bytes of a member that were changed.
 
-use crate::saved_group::{Keeping, history, three};
+use crate::conversations::trio::create_trio;
 use mls_member::Member;
 use mls_suite::{Glass, OutOfMemory};
 use std::alloc::Global;
@@ -64,17 +64,8 @@ fn loaded_changes(alloc: Global, bytes: &[u8]) -> Result<usize, OutOfMemory> {
 
 /// What carol is saved as.
 fn saved_carol(alloc: Global) -> Result<Vec<u8>, Fail> {
-    let group = three(alloc, Keeping::Held)?;
-    Ok(group.carol.save()?)
-}
-
-#[test]
-fn who_is_loaded_goes_on(rt: HostRuntime) -> Result<(), Fail> {
-    let alloc = rt.alloc();
-    let held = history(alloc, Keeping::Held)?;
-    let reloaded = history(alloc, Keeping::Reloaded)?;
-    assert!(rt; held == reloaded);
-    Ok(())
+    let members = create_trio::<Glass>(alloc, b"group")?;
+    Ok(members.carol.save()?)
 }
 
 #[test]

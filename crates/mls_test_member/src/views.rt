@@ -1,9 +1,9 @@
-//! What a member shows to an application: who is in the group, what it keeps, and kinds of refusals.
+//! What a member shows to an application: who is in the group, what it keeps, and what a message would do.
 
 use mls_candidate::Candidate;
 use mls_kdf::Secret;
 use mls_leaf::Proposal;
-use mls_member::{KeptCommit, KeptProposal, Member, Refusal, RefusalKind, message_sender};
+use mls_member::{KeptCommit, KeptProposal, Member, Refusal, message_sender};
 use mls_suite::Glass;
 use mls_test_pair::{Pair, Seeds, share};
 use std::alloc::Global;
@@ -108,67 +108,17 @@ fn what_is_kept(rt: HostRuntime) -> Result<(), Fail> {
     Ok(())
 }
 
-/// Whether a commit is pending before a commit call, behind it, and once the commit is followed.
-fn pending(member: &mut Member<Glass>) -> Result<(bool, bool, bool), Refusal> {
-    let before = member.is_commit_pending();
-    let commit = commit(member)?;
-    let behind = member.is_commit_pending();
-    process(member, &commit)?;
-    Ok((before, behind, member.is_commit_pending()))
-}
-
-#[test]
-fn what_is_pending(rt: HostRuntime) -> Result<(), Fail> {
-    let mut pair = new_pair(rt.alloc())?;
-    assert_eq!(rt; pending(&mut pair.first)?, (false, true, false));
-    Ok(())
-}
-
-/// The kind that a member refuses these bytes with.
-fn kind(member: &mut Member<Glass>, bytes: &[u8]) -> Option<RefusalKind> {
-    match member.process(bytes) {
-        Ok(_) => None,
-        Err(error) => Some(error.kind()),
-    }
-}
-
-#[test]
-fn kinds(rt: HostRuntime) -> Result<(), Fail> {
-    let mut pair = new_pair(rt.alloc())?;
-    // No bytes; a Welcome of no secrets; its version cut.
-    assert_eq!(rt; kind(&mut pair.first, &[]), Some(RefusalKind::Malformed));
-    assert_eq!(rt;
-        kind(&mut pair.first, &[0, 1, 0, 3, 0, 1, 0, 0]),
-        Some(RefusalKind::WrongMessage)
-    );
-    Ok(())
-}
-
-/// Whether a member's inspection of bytes shows what it then does with them.
-fn follows_inspection(member: &mut Member<Glass>, bytes: &[u8]) -> bool {
-    let shown = member.inspect(bytes);
-    let done = member.process(bytes);
-    match (shown, done) {
-        (Ok(shown), Ok(_)) => shown.member.epoch() == member.epoch(),
-        (Err(shown), Err(error)) => shown.number() == error.number(),
-        _ => false,
-    }
-}
-
-/// The first commits with a path, and the second inspects the commit, its first half, and the commit again.
-fn inspect(pair: &mut Pair<Glass>) -> Result<(bool, bool, bool), Refusal> {
+/// The first commits with a path, and the second inspects that: the epoch that it would come to.
+fn inspect(pair: &mut Pair<Glass>) -> Result<u64, Refusal> {
     let commit = commit(&mut pair.first)?;
-    let half = follows_inspection(&mut pair.second, &commit[..commit.len() / 2]);
-    let whole = follows_inspection(&mut pair.second, &commit);
-    let again = follows_inspection(&mut pair.second, &commit);
-    Ok((half, whole, again))
+    let inspected = pair.second.inspect(&commit)?;
+    Ok(inspected.member.epoch())
 }
 
 #[test]
 fn what_a_message_would_do(rt: HostRuntime) -> Result<(), Fail> {
     let mut pair = new_pair(rt.alloc())?;
-    assert_eq!(rt; inspect(&mut pair)?, (true, true, true));
-    assert_eq!(rt; message_sender(&[]), None);
+    assert_eq!(rt; inspect(&mut pair)?, 3);
     Ok(())
 }
 

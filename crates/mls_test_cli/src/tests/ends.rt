@@ -129,7 +129,7 @@ impl Output for Scarce {
 }
 
 /// How many lines a text has.
-pub fn count_lines(text: &[u8]) -> usize {
+fn count_lines(text: &[u8]) -> usize {
     let mut count: usize = 0;
     for byte in text {
         if *byte == b'\n' {

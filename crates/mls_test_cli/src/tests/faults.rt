@@ -1,10 +1,8 @@
 //! Ends that fail in turn, and what a run leaves there.
 
-use crate::tests::{
-    Broken, Full, OUT_OF_MEMORY, request_of, serve_silently, unless_out_of_memory, with_room,
-};
+use crate::tests::{Full, request_of, serve_silently, unless_out_of_memory, with_room};
 use mls_cli_serve::{NoJob, Request};
-use mls_cli_text::{In, Out};
+use mls_cli_text::Out;
 use std::alloc::{AllocError, Global};
 
 /// Whether this byte ends a line, or there is none.
@@ -16,7 +14,7 @@ fn ends_line(byte: Option<&u8>) -> bool {
 }
 
 /// Whether a writer with so much room takes whole lines of a text, or all of a line but its line feed.
-pub fn fails_at_line(text: &[u8], room: usize) -> bool {
+fn fails_at_line(text: &[u8], room: usize) -> bool {
     ends_line(text.get(room)) || ends_line(text.get(room.wrapping_sub(1)))
 }
 
@@ -83,90 +81,20 @@ pub fn is_cut_at_lines(
     )
 }
 
-/// Whether nothing is printed of a file whose read fails behind this front, and it is said.
-fn is_unread(
+/// Whether an output with so much room, which is less than a text has, takes what it can of it.
+pub fn is_cut_after(
     alloc: Global,
-    request: &Result<Request<'_>, NoJob>,
-    front: &[u8],
+    words: &[&str],
+    file: &str,
+    text: &str,
+    room: usize,
 ) -> Result<bool, AllocError> {
-    let mut out = Vec::new(alloc);
-    let mut errors = Vec::new(alloc);
-    let mut broken = Some(In::new(Broken { rest: front }));
-    let status = serve_silently(alloc, request, &mut broken, &mut out, &mut errors);
-    unless_out_of_memory(status, errors.as_slice())?;
-    let said = b"mls: cannot read FILE\n".as_slice();
-    Ok(status == 3 && out.is_empty() && errors.as_slice() == said)
-}
-
-fn is_unread_by(
-    alloc: Global,
-    request: &Result<Request<'_>, NoJob>,
-    file: &[u8],
-) -> Result<bool, AllocError> {
-    for given in 0..file.len() + 1 {
-        if !is_unread(alloc, request, &file[..given])? {
-            return Ok(false);
-        }
-    }
-    Ok(true)
-}
-
-/// Whether that holds of each front of a file.
-pub fn is_unread_at_each(alloc: Global, words: &[&str], file: &str) -> Result<bool, AllocError> {
-    is_unread_by(alloc, &request_of(alloc, words), file.as_bytes())
-}
-
-/// Whether a run prints a text, and ends with this status; or, where a growth is refused, prints a beginning of it. The
-/// errors' own `Vec` may want memory too.
-pub fn is_begun(alloc: Global, words: &[&str], file: &[u8], status: u8, text: &[u8]) -> bool {
-    let mut source = Some(file);
-    let mut out = Vec::new(alloc);
-    let mut errors = Vec::new(alloc);
-    let answer = serve_silently(
+    is_cut_at(
         alloc,
         &request_of(alloc, words),
-        &mut source,
-        &mut out,
-        &mut errors,
-    );
-    if answer == 3 {
-        OUT_OF_MEMORY.as_bytes().starts_with(errors.as_slice()) && text.starts_with(out.as_slice())
-    } else {
-        answer == status && out.as_slice() == text
-    }
-}
-
-/// What a run leaves where the errors' writer has so much room.
-#[derive(Drop)]
-pub struct Said {
-    pub status: u8,
-    pub out: Vec<u8>,
-    pub errors: Full,
-}
-
-/// What a run leaves where the errors' writer has so much room.
-pub fn serve_with_errors(
-    alloc: Global,
-    request: &Result<Request<'_>, NoJob>,
-    file: Option<&[u8]>,
-    room: usize,
-) -> Result<Said, AllocError> {
-    let mut source = file;
-    let mut out = Vec::new(alloc);
-    let mut errors = with_room(alloc, room)?;
-    let status = serve_silently(alloc, request, &mut source, &mut out, &mut errors);
-    Ok(Said {
-        status,
-        out,
-        errors,
-    })
-}
-
-impl Said {
-    /// Whether it has this status and text, and the errors' writer, with so much room, the front of what is said.
-    pub fn is(&self, status: u8, text: &str, said: &str, room: usize) -> bool {
-        self.status == status
-            && self.out.as_slice() == text.as_bytes()
-            && holds_front(&self.errors, said.as_bytes(), room)
-    }
+        file,
+        text.as_bytes(),
+        3,
+        room,
+    )
 }

@@ -1,10 +1,6 @@
 //! Drawings, hints and GroupInfos of `mls check`, and `mls --explain`, by way of `serve`.
 
 use crate::tests::cases::{Case, count_met};
-use crate::tests::faults::serve_with_errors;
-use crate::tests::request_of;
-use mls_cli_serve::{NoJob, Request};
-use std::alloc::{AllocError, Global};
 use std::test::Fail;
 
 /// Trees of one and two leaves, of five of which one is blank, and of seven. Their leaves are named in the pictures.
@@ -72,9 +68,6 @@ const PICTURE_OF_SEVEN: &str = r#"    ┌─■ 0 "ann"
 const NOT_HEX: &str = "refused: 8 NotHex\n";
 
 const JSON: &str = "refused: 8 NotHex\nmls: the file is JSON: see `mls replay` and `mls vectors`\n";
-
-/// What is said of it on the errors.
-const HINT: &str = "mls: the file is JSON: see `mls replay` and `mls vectors`\n";
 
 const BINARY: &str = "refused: 8 NotHex\nmls: the file is binary: give --raw\n";
 
@@ -171,39 +164,6 @@ const HINTS: &[Case] = &[
 #[test]
 fn hints_at_options(rt: HostRuntime) -> Result<(), Fail> {
     assert_eq!(rt; count_met(rt.alloc(), HINTS)?, HINTS.len());
-    Ok(())
-}
-
-/// Whether the status and the output are the same where the errors' writer takes so much of the hint.
-fn is_hinted_within(
-    alloc: Global,
-    request: &Result<Request<'_>, NoJob>,
-    room: usize,
-) -> Result<bool, AllocError> {
-    let left = serve_with_errors(alloc, request, Some("{}".as_bytes()), room)?;
-    if left.status == 3 {
-        return Err(AllocError);
-    }
-    Ok(left.is(1, NOT_HEX, HINT, room))
-}
-
-fn is_hinted_by(alloc: Global, request: &Result<Request<'_>, NoJob>) -> Result<bool, AllocError> {
-    for room in 0..HINT.len() + 1 {
-        if !is_hinted_within(alloc, request, room)? {
-            return Ok(false);
-        }
-    }
-    Ok(true)
-}
-
-fn is_hinted(alloc: Global) -> Result<bool, AllocError> {
-    is_hinted_by(alloc, &request_of(alloc, SHOW))
-}
-
-/// A hint that can't be written changes neither the output nor the status.
-#[test]
-fn keeps_the_status_of_an_unwritten_hint(rt: HostRuntime) -> Result<(), Fail> {
-    assert!(rt; is_hinted(rt.alloc())?);
     Ok(())
 }
 

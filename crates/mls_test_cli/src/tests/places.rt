@@ -1,10 +1,8 @@
 //! What `--where` has said of refusals, by way of `serve`. The offsets are counted by hand in the bytes.
 
 use crate::tests::cases::{Case, count_met, is_met};
-use crate::tests::faults::serve_with_errors;
 use crate::tests::options::{FIVE, ONE, WITH_TREE};
-use crate::tests::{KEY_PACKAGE, TEXT, request_of, serve_file};
-use mls_cli_serve::{NoJob, Request};
+use crate::tests::{KEY_PACKAGE, TEXT, serve_file};
 use std::alloc::{AllocError, Global};
 use std::test::Fail;
 
@@ -258,43 +256,5 @@ const REST: &[Case] = &[
 #[test]
 fn says_nothing_of_the_rest(rt: HostRuntime) -> Result<(), Fail> {
     assert_eq!(rt; count_met(rt.alloc(), REST)?, REST.len());
-    Ok(())
-}
-
-/// What is said of the place of a message with one byte.
-const PLACE: &str = "offset: 0\nfield: version\n";
-
-/// Whether the status and the output are the same where the errors' writer takes so much of the place. Where memory is
-/// wanting for it, none is said.
-fn is_placed_within(
-    alloc: Global,
-    request: &Result<Request<'_>, NoJob>,
-    room: usize,
-) -> Result<bool, AllocError> {
-    let left = serve_with_errors(alloc, request, Some("00".as_bytes()), room)?;
-    if left.status == 3 {
-        return Err(AllocError);
-    }
-    let said = if left.errors.held.is_empty() { 0 } else { room };
-    Ok(left.is(1, "refused: 2 Truncated\n", PLACE, said))
-}
-
-fn is_placed_by(alloc: Global, request: &Result<Request<'_>, NoJob>) -> Result<bool, AllocError> {
-    for room in 0..PLACE.len() + 1 {
-        if !is_placed_within(alloc, request, room)? {
-            return Ok(false);
-        }
-    }
-    Ok(true)
-}
-
-fn is_placed(alloc: Global) -> Result<bool, AllocError> {
-    is_placed_by(alloc, &request_of(alloc, SHOW))
-}
-
-/// A place that can't be written changes neither the output nor the status.
-#[test]
-fn keeps_the_status_of_an_unwritten_place(rt: HostRuntime) -> Result<(), Fail> {
-    assert!(rt; is_placed(rt.alloc())?);
     Ok(())
 }

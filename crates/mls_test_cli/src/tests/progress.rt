@@ -1,9 +1,7 @@
 //! What is said of how far a replay is, by way of `serve`.
 
-use crate::tests::ends::count_lines;
-use crate::tests::faults::fails_at_line;
-use crate::tests::rows::{JOIN, JOIN_TEXT};
-use crate::tests::{Full, OUT_OF_MEMORY, request_of, unless_out_of_memory, with_room};
+use crate::tests::rows::JOIN;
+use crate::tests::{Full, request_of, unless_out_of_memory, with_room};
 use mls_cli_replay::Progress;
 use mls_cli_serve::{Meter, Pace, ProgressChoice, pace_of, serve};
 use mls_cli_text::Out;
@@ -61,21 +59,13 @@ impl Clock for Broken {
     }
 }
 
-/// What a run for words and a file ended with.
-#[derive(Drop)]
-struct Served {
-    status: u8,
-    out: Vec<u8>,
-    errors: Vec<u8>,
-}
-
-/// Runs `serve` for words and a file, and reports the events of a replay.
+/// Runs `serve` for words and a file, and reports the events of a replay: the status, and what goes to the errors.
 fn serve_and_report<P: Progress>(
     alloc: Global,
     words: &[&str],
     file: &str,
     progress: &mut P,
-) -> Served {
+) -> (u8, Vec<u8>) {
     let request = request_of(alloc, words);
     let mut file = Some(file.as_bytes());
     let mut out = Vec::new(alloc);
@@ -88,11 +78,7 @@ fn serve_and_report<P: Progress>(
         &mut Out::new(&mut errors),
         progress,
     );
-    Served {
-        status,
-        out,
-        errors,
-    }
+    (status, errors)
 }
 
 /// When it is said how far the job of some words is, where the errors go to a terminal or don't.
@@ -103,24 +89,20 @@ fn pace_for(alloc: Global, words: &[&str], is_terminal: bool) -> Pace {
     }
 }
 
-/// The status for words and a file, what is printed, and what is said of how far the replay is, where the errors go
-/// to a terminal or don't.
+/// The status for words and a file, with what is said of how far the replay is, where the errors go to a terminal or
+/// don't.
 fn serve_with_progress<W: Write>(
     alloc: Global,
     words: &[&str],
     file: &str,
     is_terminal: bool,
     said: &mut W,
-) -> Result<(u8, Vec<u8>), AllocError> {
+) -> Result<u8, AllocError> {
     let clock = Ticking::new();
     let mut meter = Meter::new(said, &clock, pace_for(alloc, words, is_terminal));
-    let Served {
-        status,
-        out,
-        errors,
-    } = serve_and_report(alloc, words, file, &mut meter);
+    let (status, errors) = serve_and_report(alloc, words, file, &mut meter);
     unless_out_of_memory(status, errors.as_slice())?;
-    Ok((status, out))
+    Ok(status)
 }
 
 /// A writer with room for all that is said here, which wants no memory later.
@@ -138,7 +120,7 @@ fn is_said(
     text: &str,
 ) -> Result<bool, AllocError> {
     let mut said = roomy(alloc)?;
-    let (answer, _) = serve_with_progress(alloc, words, file, is_terminal, &mut said)?;
+    let answer = serve_with_progress(alloc, words, file, is_terminal, &mut said)?;
     Ok(answer == status && said.held.as_slice() == text.as_bytes())
 }
 
@@ -170,23 +152,6 @@ fn says_each_event_where_it_is_asked_for(rt: HostRuntime) -> Result<(), Fail> {
     Ok(())
 }
 
-/// Whether the replay is printed, whatever is said of it.
-fn is_printed(alloc: Global, words: &[&str], is_terminal: bool) -> Result<bool, AllocError> {
-    let mut said = roomy(alloc)?;
-    let (status, out) = serve_with_progress(alloc, words, JOIN, is_terminal, &mut said)?;
-    Ok(status == 0 && out.as_slice() == JOIN_TEXT.as_bytes())
-}
-
-/// What is printed is the same with it and without.
-#[test]
-fn leaves_the_output_as_it_is(rt: HostRuntime) -> Result<(), Fail> {
-    assert!(rt; is_printed(rt.alloc(), PLAIN, false)?);
-    assert!(rt; is_printed(rt.alloc(), PLAIN, true)?);
-    assert!(rt; is_printed(rt.alloc(), PROGRESS, false)?);
-    assert!(rt; is_printed(rt.alloc(), PROGRESS, true)?);
-    Ok(())
-}
-
 const SECONDS: &str = "mls: 2 of 6 events\nmls: 4 of 6 events\nmls: 6 of 6 events\n";
 
 /// In a pipe nothing is said unless it is asked for, and on a terminal a line each two seconds.
@@ -208,124 +173,5 @@ fn said_by_broken(alloc: Global) -> Result<Full, AllocError> {
 #[test]
 fn says_nothing_without_a_clock(rt: HostRuntime) -> Result<(), Fail> {
     assert!(rt; said_by_broken(rt.alloc())?.held.is_empty());
-    Ok(())
-}
-
-#[test]
-fn says_nothing_of_other_files(rt: HostRuntime) -> Result<(), Fail> {
-    let nothing = r#"{"version":1,"suite":"f001","events":[]}"#;
-    assert!(rt; is_said(rt.alloc(), PROGRESS, "", true, 1, "")?);
-    assert!(rt; is_said(rt.alloc(), PROGRESS, "{}", true, 1, "")?);
-    assert!(rt; is_said(rt.alloc(), PROGRESS, nothing, true, 0, "")?);
-    Ok(())
-}
-
-#[test]
-fn paces(rt: HostRuntime) {
-    assert!(rt; pace_of(ProgressChoice::Always, false) == Pace::Hundredths);
-    assert!(rt; pace_of(ProgressChoice::Always, true) == Pace::Hundredths);
-    assert!(rt; pace_of(ProgressChoice::OnTerminal, false) == Pace::Never);
-    assert!(rt; pace_of(ProgressChoice::OnTerminal, true) == Pace::Seconds);
-}
-
-/// Reports each of so many events to a meter whose lines have this room.
-fn report_each(alloc: Global, all: usize, room: usize) -> Result<Full, AllocError> {
-    let mut said = with_room(alloc, room)?;
-    let mut meter = Meter::new(&mut said, &Broken, Pace::Hundredths);
-    for done in 0..all {
-        meter.report(done + 1, all);
-    }
-    Ok(said)
-}
-
-/// Whether so many lines are said of so many events, and the last one ends them.
-fn has_lines(alloc: Global, all: usize, lines: usize) -> Result<bool, AllocError> {
-    let said = report_each(alloc, all, 8192)?;
-    let text = said.held.as_slice();
-    let last = format!(in alloc; "mls: {all} of {all} events\n")?;
-    Ok(text.ends_with(last.as_bytes()) && count_lines(text) == lines)
-}
-
-/// Of how many events how many lines are said.
-const LINES: &[(usize, usize)] = &[
-    (1, 1),
-    (99, 99),
-    (199, 199),
-    (200, 100),
-    (250, 125),
-    (1001, 101),
-];
-
-/// How many are so, from the first on.
-fn count_pages_in_lines(alloc: Global, cases: &[(usize, usize)]) -> Result<usize, AllocError> {
-    for i in 0..cases.len() {
-        let (all, lines) = cases[i];
-        if !has_lines(alloc, all, lines)? {
-            return Ok(i);
-        }
-    }
-    Ok(cases.len())
-}
-
-#[test]
-fn says_at_hundredths(rt: HostRuntime) -> Result<(), Fail> {
-    assert_eq!(rt; count_pages_in_lines(rt.alloc(), LINES)?, LINES.len());
-    Ok(())
-}
-
-/// Whether the replay is printed, and a beginning of what would be said is, where there is so much room for it.
-fn is_printed_within(alloc: Global, room: usize) -> Result<bool, AllocError> {
-    let mut said = with_room(alloc, room)?;
-    let (status, out) = serve_with_progress(alloc, PROGRESS, JOIN, false, &mut said)?;
-    Ok(
-        status == 0
-            && out.as_slice() == JOIN_TEXT.as_bytes()
-            && EACH.as_bytes().starts_with(said.held.as_slice()),
-    )
-}
-
-/// Whether it is so for each room. A line is written in pieces, so each byte of two lines is tried.
-fn is_printed_within_each(alloc: Global) -> Result<bool, AllocError> {
-    for room in 0..EACH.len() + 1 {
-        let is_tried = room <= 38 || fails_at_line(EACH.as_bytes(), room);
-        if is_tried && !is_printed_within(alloc, room)? {
-            return Ok(false);
-        }
-    }
-    Ok(true)
-}
-
-/// Where a write of it fails, no more is said, and all else is as it was.
-#[test]
-fn goes_on_where_it_cannot_be_said(rt: HostRuntime) -> Result<(), Fail> {
-    assert!(rt; is_printed_within_each(rt.alloc())?);
-    Ok(())
-}
-
-/// Whether a run's errors are none but want of memory, and all is said where there are none.
-fn is_told(served: &Served, said: &[u8]) -> bool {
-    if served.status == 3 {
-        OUT_OF_MEMORY
-            .as_bytes()
-            .starts_with(served.errors.as_slice())
-    } else {
-        said == EACH.as_bytes()
-    }
-}
-
-/// Whether a beginning of what would be said is, and all where memory isn't wanting.
-fn is_said_before(alloc: Global) -> Result<bool, AllocError> {
-    let words: &[&str] = &["mls", "replay", "FILE", "--progress", "--quiet"];
-    let mut said = roomy(alloc)?;
-    let mut meter = Meter::new(&mut said, &Broken, Pace::Hundredths);
-    let served = serve_and_report(alloc, words, JOIN, &mut meter);
-    let held = said.held.as_slice();
-    Ok(EACH.as_bytes().starts_with(held) && is_told(&served, held))
-}
-
-/// Where a growth is refused, what was done before is said.
-#[test]
-fn says_what_was_done_before_memory_was_wanting(rt: HostRuntime) -> Result<(), Fail> {
-    assert!(rt; is_said_before(rt.alloc())?);
     Ok(())
 }

@@ -1,8 +1,6 @@
 //! What `mls replay` prints of recordings of version 2, by way of `serve`.
 
 use crate::tests::cases::{FileCase, count_met_by, is_met};
-use crate::tests::faults::{is_begun, is_cut_at_lines};
-use crate::tests::replay::{ADA, ALONE, BEGUN};
 use std::alloc::{AllocError, Global};
 use std::test::Fail;
 
@@ -214,46 +212,5 @@ const REFUSED: &[FileCase] = &[
 #[test]
 fn refuses_other_versions(rt: HostRuntime) -> Result<(), Fail> {
     assert_eq!(rt; count_met_by(rt.alloc(), WORDS, REFUSED)?, REFUSED.len());
-    Ok(())
-}
-
-/// A candidate's message, delivered to the sole member.
-fn alone(alloc: Global) -> Result<String, AllocError> {
-    format!(in alloc;
-        "{{\"version\":2,\"suite\":\"f001\",\"events\":[{ALONE},{{\"op\":\"deliver_all\",\"bytes\":{{\"message\":0}}}}],\"final\":[\"member 0: gone\",\"x\"]}}"
-    )
-}
-
-/// What is printed of it.
-fn alone_text(alloc: Global) -> Result<String, AllocError> {
-    format!(in alloc;
-        "{BEGUN}2: proposed 0, known 0, advanced 0, removed 0, refused 1\n{ADA}final 0: expected member 0: gone\nfinal 1: expected x\n"
-    )
-}
-
-fn is_cut(alloc: Global) -> Result<bool, AllocError> {
-    let file = alone(alloc)?;
-    let text = alone_text(alloc)?;
-    is_cut_at_lines(alloc, WORDS, file.as_str(), text.as_str(), 1)
-}
-
-#[test]
-fn stops_where_a_write_fails(rt: HostRuntime) -> Result<(), Fail> {
-    assert!(rt; is_cut(rt.alloc())?);
-    Ok(())
-}
-
-fn group_is_begun(alloc: Global) -> Result<bool, AllocError> {
-    let file = group_with(alloc, "\"member 0: gone\"")?;
-    let text = group_text(
-        alloc,
-        "final 0: expected member 0: gone\nfinal 1: expected nothing\nfinal 2: expected nothing\n",
-    )?;
-    Ok(is_begun(alloc, WORDS, file.as_bytes(), 1, text.as_bytes()))
-}
-
-#[test]
-fn stops_where_memory_is_wanting(rt: HostRuntime) -> Result<(), Fail> {
-    assert!(rt; group_is_begun(rt.alloc())?);
     Ok(())
 }

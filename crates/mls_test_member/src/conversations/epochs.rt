@@ -1,12 +1,11 @@
-//! Other groups, other epochs, a member that is gone, and texts that aren't sealed.
+//! Other groups, other epochs, and a member that is gone.
 
 use crate::conversations::speakers::{
-    Speakers, Text, bytes_of, converse, converse_all, hears, new_speakers, number_of_conversing,
-    number_of_hearing, number_of_saying, say,
+    Speakers, Text, bytes_of, converse, converse_all, new_speakers, number_of_conversing,
+    number_of_hearing, say,
 };
 use crate::conversations::trio::{Trio, create_trio};
-use mls_conversation::{Conversation, ConversationError, ExchangeError};
-use mls_leaf::INPUT_LIMIT;
+use mls_conversation::{Conversation, ExchangeError};
 use mls_suite::{Glass, Suite};
 use std::alloc::Global;
 use std::test::Fail;
@@ -101,52 +100,4 @@ fn a_member_is_removed(rt: HostRuntime) -> Result<(), Fail> {
         (40, [112, 112, 112, 114, 0, 0])
     );
     Ok(())
-}
-
-/// Whether what is sealed and opened next is a generation.
-fn goes_on<S: Suite>(
-    sender: &mut Conversation<S>,
-    reader: &mut Conversation<S>,
-    generation: u32,
-) -> Result<bool, ExchangeError> {
-    let message = say(sender, &HELLO)?;
-    hears(reader, &message, 0, generation, b"hello")
-}
-
-/// The text with so many bytes of padding.
-fn padded(padding: usize) -> Text {
-    Text { padding, ..HELLO }
-}
-
-/// What is answered where texts are refused between the first message and two others: one byte of padding more than an input
-/// may have, and as many as it may, which with the content are more.
-fn answers_between<S: Suite>(
-    speakers: &mut Speakers<S>,
-) -> Result<(bool, u8, u8, bool, bool), ExchangeError> {
-    let (alice, bob) = (&mut speakers.alice, &mut speakers.bob);
-    let first = goes_on(alice, bob, 0)?;
-    let more = number_of_saying(alice, &padded(INPUT_LIMIT + 1));
-    let whole = number_of_saying(alice, &padded(INPUT_LIMIT));
-    let second = goes_on(alice, bob, 1)?;
-    Ok((first, more, whole, second, goes_on(alice, bob, 2)?))
-}
-
-/// `answers_between` in a new group.
-fn refusal_answers(alloc: Global) -> Result<(bool, u8, u8, bool, bool), Fail> {
-    let mut speakers = new_speakers::<Glass>(alloc, b"group")?;
-    Ok(answers_between(&mut speakers)?)
-}
-
-#[test]
-fn a_refusal_uses_no_generation(rt: HostRuntime) -> Result<(), Fail> {
-    assert_eq!(rt; refusal_answers(rt.alloc())?, (true, 6, 6, true, true));
-    Ok(())
-}
-
-#[test]
-fn names(rt: HostRuntime) {
-    assert_eq!(rt; ConversationError::Gone.name(), "Gone");
-    assert_eq!(rt; ConversationError::TreeShape.number(), 20);
-    assert_eq!(rt; ExchangeError::OtherEpoch.name(), "OtherEpoch");
-    assert_eq!(rt; ExchangeError::BadMessageSignature.number(), 119);
 }

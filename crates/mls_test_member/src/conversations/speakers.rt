@@ -67,14 +67,6 @@ pub(crate) fn say<S: Suite>(
     )
 }
 
-/// The number with which a text isn't sealed, 0 where it is.
-pub(crate) fn number_of_saying<S: Suite>(conversation: &mut Conversation<S>, text: &Text) -> u8 {
-    match say(conversation, text) {
-        Ok(_) => 0,
-        Err(error) => error.number(),
-    }
-}
-
 /// The number that a message is refused with, 0 where it opens.
 pub(crate) fn number_of_hearing<S: Suite>(conversation: &mut Conversation<S>, bytes: &[u8]) -> u8 {
     match conversation.open(bytes) {

@@ -1,4 +1,4 @@
--- `copy_at` lends the bytes for a lifetime that is made for the call of `bytes_of`, unless the pointer is null.
+-- `copy_at` lends the bytes for a lifetime that is made for the call of `given_of`, unless the pointer is null.
 use Rattle.std.proofs.Common.{ℕ, ◌*◌, ◌^◌, ◌<◌, List, [], ◌∷◌, length, refl, subst, arith, lit<, w8, w64, Bor}
 use seplogic.Ra.Ura.{Ura}
 use base.Fraction.{full_share}
@@ -49,12 +49,12 @@ use Rattle.mls_calls.specs.Given.{IsCopy, IsNone}
 use Rattle.mls_calls.specs.contracts.given.Given as given
 use Rattle.mls_calls.proofs.given.Given.TheLaws as given_laws
 use Rattle.mls_c.proofs.Rows.{typed, comes, holds}
-use Rattle.mls_calls.specs.contracts.bytes_of as of
-use Rattle.mls_calls.proofs.bytes_of.Symbol.{name as #bytes-of}
-use Rattle.mls_calls.proofs.bytes_of.Met as of_thm
-use Rattle.mls_calls.specs.contracts.no_bytes as no
-use Rattle.mls_calls.proofs.no_bytes.Symbol.{name as #no-bytes}
-use Rattle.mls_calls.proofs.no_bytes.Met as no_thm
+use Rattle.mls_calls.specs.contracts.given_of as of
+use Rattle.mls_calls.proofs.given_of.Symbol.{name as #given-of}
+use Rattle.mls_calls.proofs.given_of.Met as of_thm
+use Rattle.mls_calls.specs.contracts.none_given as no
+use Rattle.mls_calls.proofs.none_given.Symbol.{name as #none-given}
+use Rattle.mls_calls.proofs.none_given.Met as no_thm
 use Rattle.mls_c.specs.contracts.pointer.copy_at as f
 use Rattle.mls_c.proofs.pointer.copy_at.Statement.{statement}
 use Rattle.mls_c.proofs.pointer.copy_at.Code as code
@@ -73,7 +73,7 @@ module _ {M : Type 1} {𝓤 : Ura M} (𝓛 : Logic 𝓤) (at_mem : Memory → SP
   No = triple_of 𝓛 no.signature (no.spec 𝓛 at_mem run)
 
 module _ {M : Type 1} {𝓤 : Ura M} (𝓛 : Logic 𝓤) (at_mem : Memory → SProp 𝓤) (run : Routine → Fun 𝓤) (C : Calls 𝓤 𝓛.H) (Λ : Loops 𝓤 𝓛.H) (fm : FmC 𝓤 𝓛.H 𝓛.laws C)
-    (known : Triple 𝓤 (C #bytes-of) (Of 𝓛 at_mem run)) (known_no : Triple 𝓤 (C #no-bytes) (No 𝓛 at_mem run)) (a : Global) (hv : Val) (good : Good (layout heap.the_row) hv) (q : Share) (xs : List ℕ) where
+    (known : Triple 𝓤 (C #given-of) (Of 𝓛 at_mem run)) (known_no : Triple 𝓤 (C #none-given) (No 𝓛 at_mem run)) (a : Global) (hv : Val) (good : Good (layout heap.the_row) hv) (q : Share) (xs : List ℕ) where
   abbrev passed : Ptr → ℕ → List Val × (List Val × (List Val × Unit {0}))
   passed p n = (hv ∷ [], (rawptr_vals p, (vint w64 n ∷ [], tt)))
 
@@ -166,5 +166,5 @@ copy_at_spec 𝓤 𝓛 𝓜 𝓡 wired =
     proved 𝓛 f.ended stayed c 𝓜 𝓡 (Goes-dropped 𝓛 0 (plain (λ _. heap.the_row)) yes (λ κs x w. refl), (Goes-dropped 𝓛 0 (plain (λ _. RawPtr)) yes (λ κs x w. refl), (Goes-dropped 𝓛 0 (plain (λ _. usize)) yes (λ κs x w. refl), tt)))
     f.Key.name code.function (code.unfolded 𝓤 H 𝓜 𝓡 wired)
     (λ κs. ((λ x. heap_laws.the_told.val x ∷ []), (rawptr_vals, (uint_vals w64, tt)))) (λ κs. (heap_laws.the_told.tells, (rawptr_Tells, (uint_Tells w64, tt)))) (λ κs qs bounds a g are.
-    at_each 𝓛 𝓜.mem 𝓡.returns 𝓣.C 𝓣.Λ (framed 𝓤 H 𝓜 𝓣) (of_thm.met 𝓤 𝓛 𝓜 𝓡 (code.calls-mls_calls::bytes_of 𝓡.env wired)) (no_thm.met 𝓤 𝓛 𝓜 𝓡 (code.calls-mls_calls::no_bytes 𝓡.env wired))
+    at_each 𝓛 𝓜.mem 𝓡.returns 𝓣.C 𝓣.Λ (framed 𝓤 H 𝓜 𝓣) (of_thm.met 𝓤 𝓛 𝓜 𝓡 (code.calls-mls_calls::given_of 𝓡.env wired)) (no_thm.met 𝓤 𝓛 𝓜 𝓡 (code.calls-mls_calls::none_given 𝓡.env wired))
     a.0 (heap_laws.the_told.val a.0) ((heap_laws.the_row_laws.lawful 𝓛).typed a.0 (heap_laws.the_told.val a.0 ∷ []) are.0).0 g.0 g.1 a.1.0 a.1.1.0 are.1.1.0.1)
