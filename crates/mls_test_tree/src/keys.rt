@@ -1,8 +1,8 @@
 //! Secrets of paths, and the keys that a member has.
 
 use crate::small_trees::{
-    add, boxed, follow_edit, has_key, has_nodes, holds, make_path, next, node_pair, path_secrets,
-    single, with_key,
+    add, boxed, follow_edit, has_key, has_nodes, make_path, next, node_pair, path_secrets, single,
+    with_key,
 };
 use mls_kdf::Secret;
 use mls_suite::KeyPair;
@@ -113,30 +113,6 @@ fn maker_has_made(alloc: Global) -> bool {
 fn keys_of_a_maker(rt: HostRuntime) {
     assert!(rt; new_has_its_leaf(rt.alloc()));
     assert!(rt; maker_has_made(rt.alloc()));
-}
-
-/// A copy of a member.
-fn copy_of(alloc: Global, own: &PrivatePath) -> Option<Box<PrivatePath>> {
-    boxed(alloc, own.clone().ok()?)
-}
-
-/// Whether a copy is of leaf 1, and has its key and those of the path of two nodes.
-fn has_keys_of_maker(copy: &PrivatePath, made: &PathSecrets) -> bool {
-    copy.leaf() == 1 && has_made(copy, made)
-}
-
-/// Whether a copy of the maker is of the same leaf, and has its leaf's key and those of the path of two nodes.
-fn copy_has_made(alloc: Global) -> Option<bool> {
-    let maker = two_maker(alloc)?;
-    match copy_of(alloc, &maker.own) {
-        Some(copy) => Some(has_keys_of_maker(&copy, &maker.made)),
-        None => None,
-    }
-}
-
-#[test]
-fn a_copy_has_the_same_keys(rt: HostRuntime) {
-    assert!(rt; holds(copy_has_made(rt.alloc())));
 }
 
 /// Two members.

@@ -1,5 +1,5 @@
-//! Worked places, checks of leaves, hashes of nodes, indexes of keys, arrays of nodes, public trees by rows, and
-//! private keys of small trees: tests alone, above the crates that they use.
+//! Worked places, checks of leaves, hashes of nodes, arrays of nodes, public trees by rows, and private keys of small
+//! trees: tests alone, above the crates that they use.
 #![tactic(auto)]
 
 #[cfg(test)]
@@ -14,8 +14,6 @@ mod commits;
 mod hash_counts;
 #[cfg(test)]
 mod hashes;
-#[cfg(test)]
-mod indexes;
 #[cfg(test)]
 mod joiners;
 #[cfg(test)]
@@ -34,8 +32,6 @@ mod seals;
 mod shapes;
 #[cfg(test)]
 mod shared_trees;
-#[cfg(test)]
-mod slots;
 #[cfg(test)]
 mod small_trees;
 #[cfg(test)]

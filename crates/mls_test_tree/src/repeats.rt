@@ -2,7 +2,7 @@
 
 use crate::rows::Step::{Add, Counts, Distinct, Merge, Odd, Remove, Single, Update};
 use crate::rows::Told::{Done, Is, Refused};
-use crate::rows::{Row, count_met, count_met_by_both};
+use crate::rows::{Row, count_met};
 use std::test::*;
 
 const REPEATED: &[Row] = &[
@@ -102,21 +102,5 @@ const CUT_KEYS: &[Row] = &[
 #[test]
 fn keys_leave_with_the_half_that_is_cut(rt: HostRuntime) -> Result<(), Fail> {
     assert_eq!(rt; count_met(rt.alloc(), CUT_KEYS)?, CUT_KEYS.len());
-    Ok(())
-}
-
-const THREE: &[Row] = &[(Single(1), Done), (Add(2), Is(&[1])), (Add(3), Is(&[2]))];
-
-const CHANGED_COPY: &[Row] = &[(Update(2, 1), Done), (Distinct, Is(&[0, 0]))];
-
-const COPIED_TREE: &[Row] = &[(Distinct, Is(&[1, 1]))];
-
-#[test]
-fn copies_keep_their_keys(rt: HostRuntime) -> Result<(), Fail> {
-    let count_met = count_met_by_both(rt.alloc(), THREE, CHANGED_COPY, COPIED_TREE)?;
-    assert_eq!(rt;
-        count_met,
-        [THREE.len(), CHANGED_COPY.len(), COPIED_TREE.len()]
-    );
     Ok(())
 }

@@ -1,7 +1,0 @@
-use Rattle.std.proofs.Common.{refl}
-use Rattle.mls_tree_model.specs.Sets.{count, is_distinct}
-use Rattle.mls_test_tree.proofs.indexes.rows.nowhere.Goals as goal
-
-pub returns : goal.returns
-unfolding is_distinct count
-returns c = refl
