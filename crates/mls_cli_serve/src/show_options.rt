@@ -27,7 +27,7 @@ pub fn show_command<'a>(alloc: Global) -> Result<Command<'a>, AllocError>
     let full = flag_arg(
         alloc,
         "full",
-        "Prints each item of a commit, a Welcome and a tree too",
+        "Prints each item of a list and a message's reference too",
     );
     let with_full = command.arg(full)?;
     let raw = flag_arg(alloc, "raw", "Reads bytes as they are, and not hex");

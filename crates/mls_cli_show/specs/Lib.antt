@@ -4,5 +4,6 @@ pub mod Numbered
 pub mod Commit
 pub mod Public
 pub mod Group
+pub mod Reference
 pub mod Message
 pub mod Show

@@ -20,6 +20,7 @@ mod message;
 mod numbered;
 mod package;
 mod public;
+mod reference;
 
 pub use commit::count_field;
 pub use group::{group_info_lines, welcome_lines};

@@ -12,7 +12,8 @@ use std::alloc::{AllocError, Global};
 pub enum Detail {
     /// Its own fields, and of lists how long they are.
     Brief,
-    /// Besides each item of a commit, of its path, of a Welcome and of a ratchet tree.
+    /// Besides each item of a commit, of its path, of a Welcome and of a ratchet tree, and the reference by which others
+    /// name a KeyPackage or a proposal.
     Full,
 }
 

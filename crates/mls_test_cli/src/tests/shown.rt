@@ -1,6 +1,7 @@
 //! What `mls show --full` prints, and what `--raw` reads, by way of `serve`.
 
 use crate::tests::cases::{Case, count_met, is_met};
+use crate::tests::KEY_PACKAGE;
 use crate::tests::check::LINES;
 use std::alloc::{AllocError, Global};
 use std::test::Fail;
@@ -105,6 +106,44 @@ new_member.0.ciphertext: ff
 group_info_bytes: 3
 ";
 
+/// The removal of leaf 5, as `examples/public_message.hex` has it.
+const PROPOSAL: &str = "00010001016700000000000000000100000002000200030000000501aa01bb";
+
+/// The reference is made by Python's hashlib, and so is that of the KeyPackage.
+const FULL_PROPOSAL_LINES: &str = "message: public_message
+bytes: 31
+group_id: 67
+epoch: 0
+sender: 2
+authenticated_data: -
+content: proposal
+proposal: remove
+removed: 5
+signature: aa
+membership_tag: bb
+reference: 0ac5a8252add8d939c5b9a100f61a508e44b4f2291b3b7027d0964aeb6dc0223
+";
+
+const FULL_KEY_PACKAGE_LINES: &str = "message: key_package
+bytes: 54
+cipher_suite: f001
+init_key: aa
+leaf.encryption_key: bb
+leaf.signature_key: cc
+leaf.identity: 626f62
+leaf.versions: 0001
+leaf.cipher_suites: f001
+leaf.extensions: -
+leaf.proposals: -
+leaf.credentials: 0001
+leaf.source: key_package
+leaf.not_before: 0
+leaf.not_after: 18446744073709551615
+leaf.signature: dd
+signature: ee
+reference: 02d8c9ad0ef00d3153d9cc6492f815b88f0e4f81e3198e89c309f42b8a67b132
+";
+
 const FULL: &[&str] = &["mls", "show", "FILE", "--full"];
 
 const FULL_CASES: &[Case] = &[
@@ -112,6 +151,8 @@ const FULL_CASES: &[Case] = &[
     (FULL, COMMIT, 0, FULL_COMMIT_LINES),
     (FULL, GROUP_INFO, 0, FULL_GROUP_INFO_LINES),
     (FULL, WELCOME, 0, FULL_WELCOME_LINES),
+    (FULL, PROPOSAL, 0, FULL_PROPOSAL_LINES),
+    (FULL, KEY_PACKAGE, 0, FULL_KEY_PACKAGE_LINES),
     (FULL, "00010003f001", 1, "refused: 2 Truncated\n"),
     (FULL, "0", 1, "refused: 8 NotHex\n"),
 ];
