@@ -47,6 +47,10 @@ suite_rule =
 abbrev pub group_rule : Rule
 group_rule = record (new_rule (codes "HEX")) { long = Some (codes "group") }
 
+-- a flag --raw
+abbrev pub raw_rule : Rule
+raw_rule = flag_rule (codes "raw")
+
 -- a flag --json
 abbrev pub json_rule : Rule
 json_rule = flag_rule (codes "json")
@@ -60,8 +64,7 @@ abbrev pub show_app : App
 show_app =
     with_rule
     (with_rule
-    (with_rule (with_rule (file_app (codes "show")) (flag_rule (codes "full")))
-    (flag_rule (codes "raw")))
+    (with_rule (with_rule (file_app (codes "show")) (flag_rule (codes "full"))) raw_rule)
     json_rule)
     where_rule
 
@@ -80,7 +83,7 @@ check_app =
     (with_rule (with_rule (with_rule (file_app (codes "check")) suite_rule) group_rule)
     (flag_rule (codes "signatures")))
     (flag_rule (codes "group-info")))
-    (flag_rule (codes "raw")))
+    raw_rule)
     json_rule)
     where_rule)
 

@@ -6,7 +6,9 @@ ghost use Rattle.clap.specs.declared.Command.TheViews.{out-Command as fields_of}
 ghost use Rattle.mls_cli_serve.specs.Arguments.{check_app, check_on, drawn, drawn_if, given, group_rule, maybe_task, task_view, tree_task, undrawn, with_draw_rules, without_json};
 
 use crate::drawing_options::{is_plain, with_drawing_options};
-use crate::options::{file_command, flag_arg, is_given, json_arg, suite_arg, suite_of, where_arg};
+use crate::options::{
+    file_command, flag_arg, is_given, json_arg, raw_arg, suite_arg, suite_of, where_arg,
+};
 use crate::show_options::form_of;
 use crate::tasks::{Job, Layout, SuiteChoice};
 use clap::{Arg, Command};
@@ -49,8 +51,7 @@ pub fn check_command<'a>(alloc: Global) -> Result<Command<'a>, AllocError>
     let with_group = with_suite.arg(group_arg(alloc))?;
     let with_signatures = with_group.arg(signatures)?;
     let with_info = with_signatures.arg(info)?;
-    let raw = flag_arg(alloc, "raw", "Reads bytes as they are, and not hex");
-    let with_raw = with_info.arg(raw)?;
+    let with_raw = with_info.arg(raw_arg(alloc))?;
     let with_json = with_raw.arg(json_arg(alloc))?;
     let with_where = with_json.arg(where_arg(alloc))?;
     with_draw(alloc, with_where)

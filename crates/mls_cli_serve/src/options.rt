@@ -3,7 +3,7 @@
 ghost use Rattle.std.specs.Prelude.{◌≡◌, false, IfOk};
 ghost use Rattle.clap.specs.Words.{app_of, rule_of};
 ghost use Rattle.clap.specs.declared.Command.TheViews.{out-Command as fields_of};
-ghost use Rattle.mls_cli_serve.specs.Arguments.{file_app, file_rule, given, is_given, json_rule, layout_of, suite_of, suite_rule, where_rule};
+ghost use Rattle.mls_cli_serve.specs.Arguments.{file_app, file_rule, given, is_given, json_rule, raw_rule, layout_of, suite_of, suite_rule, where_rule};
 ghost use Rattle.mls_cli_serve.specs.Options.{flag_rule, number_in, number_rule};
 
 use crate::tasks::{Layout, SuiteChoice};
@@ -55,6 +55,14 @@ pub fn flag_arg<'a>(alloc: Global, name: &'a str, help: &'a str) -> Arg<'a>
         .long(name)
         .action(ArgAction::SetTrue)
         .help(help)
+}
+
+/// The flag that says that a file has its bytes as they are.
+pub fn raw_arg<'a>(alloc: Global) -> Arg<'a>
+    ensures rule { rule_of result ≡ raw_rule }
+    ensures local { result.global ≡ false }
+{
+    flag_arg(alloc, "raw", "Reads bytes as they are, and not hex")
 }
 
 /// The flag that asks for a JSON object.

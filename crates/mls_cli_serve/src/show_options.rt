@@ -5,7 +5,7 @@ ghost use Rattle.clap.specs.Words.{app_of};
 ghost use Rattle.clap.specs.declared.Command.TheViews.{out-Command as fields_of};
 ghost use Rattle.mls_cli_serve.specs.Arguments.{form_of, given, detail_of, show_app, show_on, task_view};
 
-use crate::options::{file_command, flag_arg, is_given, json_arg, layout_of, where_arg};
+use crate::options::{file_command, flag_arg, is_given, json_arg, layout_of, raw_arg, where_arg};
 use crate::tasks::Job;
 use clap::Command;
 use mls_cli_show::Detail;
@@ -30,8 +30,7 @@ pub fn show_command<'a>(alloc: Global) -> Result<Command<'a>, AllocError>
         "Prints each item of a list and a message's reference too",
     );
     let with_full = command.arg(full)?;
-    let raw = flag_arg(alloc, "raw", "Reads bytes as they are, and not hex");
-    let with_raw = with_full.arg(raw)?;
+    let with_raw = with_full.arg(raw_arg(alloc))?;
     let with_json = with_raw.arg(json_arg(alloc))?;
     with_json.arg(where_arg(alloc))
 }

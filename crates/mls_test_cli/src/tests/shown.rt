@@ -1,7 +1,7 @@
 //! What `mls show --full` prints, and what `--raw` reads, by way of `serve`.
 
-use crate::tests::cases::{Case, count_met, is_met};
 use crate::tests::KEY_PACKAGE;
+use crate::tests::cases::{Case, count_met, is_met};
 use crate::tests::check::LINES;
 use std::alloc::{AllocError, Global};
 use std::test::Fail;
