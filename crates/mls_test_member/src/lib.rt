@@ -5,6 +5,8 @@
 #[cfg(test)]
 mod candidates;
 #[cfg(test)]
+mod changed;
+#[cfg(test)]
 mod conversations;
 #[cfg(test)]
 mod creations;
