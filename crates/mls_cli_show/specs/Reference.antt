@@ -11,21 +11,15 @@ use Rattle.mls_types.specs.Reference.{proposal_reference}
 use Rattle.mls_types.specs.declared.message.MlsMessage.{MlsMessage}
 use Rattle.mls_types.specs.declared.message.MlsMessage.TheVariants as message
 use Rattle.mls_types.specs.declared.public_message.PublicMessage.{PublicMessage}
-use Rattle.mls_types.specs.declared.public_message.WireFormat.TheVariants as format
 use Rattle.mls_types.specs.declared.signed.SignedBody.TheVariants as body
 use Rattle.mls_types.specs.declared.signed.SignedBody.{SignedBody}
-use Rattle.mls_types.specs.declared.signed.SignedContent.{SignedContent}
 use Rattle.mls_view.specs.declared.public_message.PublicMessageView.{PublicMessageView}
 use Rattle.mls_view.specs.Shown.{ShowsPublic}
+use Rattle.mls_view.specs.SliceInputs.{authenticated_content_of}
 use Rattle.mls_cli_text.specs.Text.{Entry, entries_of, entry, bytes}
 use Rattle.mls_cli_text.specs.declared.text.Line.{Line}
 use Rattle.mls_cli_show.specs.declared.numbered.Detail.{Detail}
 use Rattle.mls_cli_show.specs.Numbered.{in_full}
-
--- RFC 9420, section 6: the bytes of the AuthenticatedContent of a public message with this content
-abbrev pub authenticated_bytes : SignedContent → List ℕ
-authenticated_bytes content =
-    authenticated_content.spell (record { wire_format = format.PublicMessage; content = content })
 
 -- what a body that is a proposal has, and no other body
 abbrev pub of_proposal : SignedBody → List ℕ → Option (List ℕ)
@@ -37,7 +31,8 @@ of_proposal (body.Commit c confirmation_tag) reference = None
 -- has one
 abbrev pub reference_of : MlsMessage → Option (List ℕ)
 reference_of (message.PublicMessage v) =
-    of_proposal v.content.body (proposal_reference (authenticated_bytes v.content))
+    of_proposal v.content.body
+    (proposal_reference (authenticated_content.spell (authenticated_content_of v)))
 reference_of (message.Welcome v) = None
 reference_of (message.GroupInfo v) = None
 reference_of (message.KeyPackage v) = Some (key_package_reference (key_package.spell v))
